@@ -1,0 +1,5 @@
+-- Laws that the crates above cite too: numbers from bits, fields, tests and tables that antt computes.
+pub mod Tests
+pub mod Tabulate
+pub mod Number
+pub mod Rotate

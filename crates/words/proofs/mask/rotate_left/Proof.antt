@@ -1,0 +1,29 @@
+use native.Mathlib.Omega.{arith}
+use borrow.Author.Needs.{needs}
+use Rattle.words.proofs.mask.rotate_left.Statement.{statement}
+use Rattle.words.proofs.mask.rotate_left.Tie as tie
+use Rattle.words.proofs.mask.rotate_left.Reads as reads
+use Rattle.words.proofs.mask.rotate_left.Lts as lts
+
+-- src/mask.rt:27:9
+returns : tie.Need-returns
+returns c = ?
+
+-- src/mask.rt:29:6
+shl-result : tie.Need-shl-result
+shl-result c = search needs
+
+-- src/mask.rt:29:23
+sub-result : tie.Need-sub-result
+sub-result c = search needs
+
+-- src/mask.rt:29:17
+shr-result : tie.Need-shr-result
+shr-result c = search needs
+
+-- src/mask.rt:22:1
+returns-2 : tie.Need-returns-2
+returns-2 c = ?
+
+pub rotate-left-spec : {M : Type 1} → statement M
+rotate-left-spec = tie.close (tie.spec returns shl-result sub-result shr-result returns-2)

@@ -1,0 +1,5 @@
+-- What the words layer means. Contracts of every layer cite these.
+pub mod Choice
+pub mod Word
+pub mod Bits
+pub mod Sums
