@@ -3,3 +3,5 @@ pub mod Tests
 pub mod Tabulate
 pub mod Number
 pub mod Rotate
+pub mod MaskLaws
+pub mod Complement

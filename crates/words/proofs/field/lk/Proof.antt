@@ -1,3 +1,7 @@
+use lib.Dec.{eqb}
+use native.Mathlib.Nat.{div-one}
+use Prim.Native.Nat.{ℕ, _%_}
+use mathlib.Core.Path.{ap, sym}
 use native.Mathlib.Omega.{arith}
 use borrow.Author.Needs.{needs}
 use Rattle.words.proofs.field.lk.Statement.{statement}
@@ -7,7 +11,7 @@ use Rattle.words.proofs.field.lk.Lts as lts
 
 -- src/field.rt:127:1
 returns : tie.Need-returns
-returns c = ?
+returns c = ap (λ (x : ℕ). eqb (x % 2) 1) (sym (div-one (c .args .w)))
 
 pub lk-spec : {M : Type 1} → statement M
 lk-spec = tie.close (tie.spec returns)

@@ -1,3 +1,4 @@
+use borrow.Author.Tests.{lt-ltb, le-ltb}
 use native.Mathlib.Omega.{arith}
 use borrow.Author.Needs.{needs}
 use Rattle.words.proofs.field.signed26.Statement.{statement}
@@ -11,11 +12,11 @@ add-result c = search needs
 
 -- src/field.rt:150:1
 returns : tie.Need-returns
-returns c = ?
+returns c = simp (lt-ltb _ _ (c .if1 .taken))
 
 -- src/field.rt:150:1
 returns-2 : tie.Need-returns-2
-returns-2 c = ?
+returns-2 c = simp (le-ltb _ _ (c .if1 .left))
 
 pub signed26-spec : {M : Type 1} → statement M
 signed26-spec = tie.close (tie.spec add-result returns returns-2)

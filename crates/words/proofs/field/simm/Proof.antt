@@ -1,3 +1,5 @@
+use Rattle.words.specs.Word.{extended}
+use mathlib.Core.Path.{ap, _∙_}
 use native.Mathlib.Omega.{arith}
 use borrow.Author.Needs.{needs}
 use Rattle.words.proofs.field.simm.Statement.{statement}
@@ -17,7 +19,7 @@ signed16-requires c κs = search needs
 
 -- src/field.rt:101:1
 returns : tie.Need-returns
-returns c = ?
+returns c = c .signed16 .ensures ∙ ap (extended 16) (c .before .uimm .ensures)
 
 pub simm-spec : {M : Type 1} → statement M
 simm-spec = tie.close (tie.spec uimm-requires signed16-requires returns)

@@ -1,3 +1,6 @@
+use Rattle.words.proofs.MaskLaws.{mask-law}
+use Prim.Native.Nat.{_%_}
+use borrow.Author.Tests.{le-leb, lt-leb}
 use native.Mathlib.Omega.{arith}
 use borrow.Author.Needs.{needs}
 use Rattle.words.proofs.mask.mask_value.Statement.{statement}
@@ -19,11 +22,15 @@ shl-upto c = search needs
 
 -- src/mask.rt:7:1
 returns : tie.Need-returns
-returns c = ?
+returns c = 
+    let a = c .before .args in
+    simp (le-leb _ _ (c .if1 .taken)) at (mask-law (a .begin % 32) (a .end % 32) (search needs) (search needs))
 
 -- src/mask.rt:7:1
 returns-2 : tie.Need-returns-2
-returns-2 c = ?
+returns-2 c = 
+    let a = c .before .args in
+    simp (lt-leb _ _ (c .if1 .left)) at (mask-law (a .begin % 32) (a .end % 32) (search needs) (search needs))
 
 pub mask-value-spec : {M : Type 1} → statement M
 mask-value-spec = tie.close (tie.spec shr-from sub-upto shl-upto returns returns-2)

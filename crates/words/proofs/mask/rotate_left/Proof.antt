@@ -1,3 +1,4 @@
+use Rattle.words.proofs.Rotate.{rotate-none, rotate-some}
 use native.Mathlib.Omega.{arith}
 use borrow.Author.Needs.{needs}
 use Rattle.words.proofs.mask.rotate_left.Statement.{statement}
@@ -7,7 +8,7 @@ use Rattle.words.proofs.mask.rotate_left.Lts as lts
 
 -- src/mask.rt:27:9
 returns : tie.Need-returns
-returns c = ?
+returns c = let b = c .before in rotate-none (b .args .x) (b .args .n) (b .fits .x .fits) (c .if1 .taken)
 
 -- src/mask.rt:29:6
 shl-result : tie.Need-shl-result
@@ -23,7 +24,7 @@ shr-result c = search needs
 
 -- src/mask.rt:22:1
 returns-2 : tie.Need-returns-2
-returns-2 c = ?
+returns-2 c = let b = c .before in rotate-some (b .args .x) (b .args .n) (b .fits .x .fits) (c .if1 .left)
 
 pub rotate-left-spec : {M : Type 1} → statement M
 rotate-left-spec = tie.close (tie.spec returns shl-result sub-result shr-result returns-2)

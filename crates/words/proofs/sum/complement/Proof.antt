@@ -1,3 +1,4 @@
+use Rattle.words.proofs.Complement.{complement-law}
 use native.Mathlib.Omega.{arith}
 use borrow.Author.Needs.{needs}
 use Rattle.words.proofs.sum.complement.Statement.{statement}
@@ -11,7 +12,7 @@ sub-result c = search needs
 
 -- src/sum.rt:13:1
 returns : tie.Need-returns
-returns c = ?
+returns c = complement-law (c .args .a) (c .fits .a .fits)
 
 pub complement-spec : {M : Type 1} → statement M
 complement-spec = tie.close (tie.spec sub-result returns)

@@ -1,0 +1,2 @@
+-- Places, their order and their sums.
+pub mod Places
