@@ -140,20 +140,12 @@ fn signed16(v: u32) -> u32
     requires { ⌜ v < 2 ^ 16 ⌝ }
     ensures { λ r. ⌜ r ≡ extended 16 v ⌝ }
 {
-    if v < 0x8000 {
-        v
-    } else {
-        v + 0xffff_0000
-    }
+    if v < 0x8000 { v } else { v + 0xffff_0000 }
 }
 
 fn signed26(v: u32) -> u32
     requires { ⌜ v < 2 ^ 26 ⌝ }
     ensures { λ r. ⌜ r ≡ extended 26 v ⌝ }
 {
-    if v < 0x200_0000 {
-        v
-    } else {
-        v + 0xfc00_0000
-    }
+    if v < 0x200_0000 { v } else { v + 0xfc00_0000 }
 }

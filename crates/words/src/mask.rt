@@ -11,11 +11,7 @@ pub fn mask_value(begin: u32, end: u32) -> u32
     let e = end % 32;
     let from = 0xffff_ffffu32 >> b;
     let upto = 0xffff_ffffu32 << (31 - e);
-    if b <= e {
-        from & upto
-    } else {
-        from | upto
-    }
+    if b <= e { from & upto } else { from | upto }
 }
 
 // x rotated left by n, taken modulo 32.

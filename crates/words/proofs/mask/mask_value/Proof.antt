@@ -22,13 +22,13 @@ shl-upto c = search needs
 
 -- src/mask.rt:7:1
 returns : tie.Need-returns
-returns c = 
+returns c =
     let a = c .before .args in
     simp (le-leb _ _ (c .if1 .taken)) at (mask-law (a .begin % 32) (a .end % 32) (search needs) (search needs))
 
 -- src/mask.rt:7:1
 returns-2 : tie.Need-returns-2
-returns-2 c = 
+returns-2 c =
     let a = c .before .args in
     simp (lt-leb _ _ (c .if1 .left)) at (mask-law (a .begin % 32) (a .end % 32) (search needs) (search needs))
 

@@ -1,0 +1,27 @@
+-- Sections by address, and object symbols.
+-- Assumes nothing.
+use Prim.Native.Nat.{ℕ}
+use mathlib.Core.Bool.{Bool, _&&_}
+use mathlib.Core.List.{List}
+use lib.Dec.{eqb}
+use Rattle.words.specs.Choice.{pick}
+use Rattle.places.specs.declared.SectionAddress.{SectionAddress}
+use Rattle.search.specs.First.{first, onFound}
+use Rattle.search.specs.declared.Found.{Found}
+use Rattle.image.specs.Layout.{sections, symbols, sectionAt, symbolAt}
+use Rattle.image.specs.Rules.{holds}
+
+-- the first section that holds an address
+abbrev pub atAddress : List ℕ → ℕ → Found
+atAddress ws a = first (λ (i : ℕ). holds (sectionAt ws i) a) (sections ws)
+
+-- the object symbol at a place
+abbrev pub symbolHere : List ℕ → SectionAddress → ℕ → Bool
+symbolHere ws p j = eqb (symbolAt ws j .section) (p .section) && eqb (symbolAt ws j .address) (p .address)
+
+abbrev pub symbolIndex : List ℕ → SectionAddress → Found
+symbolIndex ws p = first (symbolHere ws p) (symbols ws)
+
+-- its size where that is known, else 0; a known size of 0 counts as none
+abbrev pub knownSize : List ℕ → SectionAddress → ℕ
+knownSize ws p = onFound (symbolIndex ws p) (λ (j : ℕ). pick (eqb (symbolAt ws j .known) 1) (symbolAt ws j .size) 0) 0

@@ -1,0 +1,35 @@
+// Every lookup in an image, by the names of the Rust where it has them.
+// Each requires sound tables (image::check_image says so) and is called by our own crates alone.
+use places::MaybeTarget;
+use places::RelocationTarget;
+use places::SectionAddress;
+
+// The relocation kind that is asked for, or any.
+pub enum Wanted {
+    Any,
+    Absolute,
+    Other,
+}
+
+// What a relocation lookup answers.
+pub enum Relocation {
+    Nothing,
+    Error,
+    To(RelocationTarget),
+}
+
+// A word that was read, or none.
+pub enum MaybeWord {
+    Missing,
+    Read(u32),
+}
+
+// A place judged as one of code.
+pub enum CodePlace {
+    NotCode,
+    Misaligned,
+    Fine,
+}
+
+// The number of a Code word, counted in section order: its bit in a visited map. Never an address.
+pub struct WordNumber(pub u32);

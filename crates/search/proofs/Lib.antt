@@ -1,0 +1,3 @@
+-- Laws of first matches and of tests at every number.
+pub mod FirstLaws
+pub mod EveryLaws

@@ -1,0 +1,3 @@
+-- First matches, and tests at every number below a bound.
+pub mod First
+pub mod Every
