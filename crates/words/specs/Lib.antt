@@ -3,3 +3,5 @@ pub mod Choice
 pub mod Word
 pub mod Bits
 pub mod Sums
+pub mod Signed
+pub mod Bytes
