@@ -1,3 +1,4 @@
+-- `words::bytes::word_at` meets its contract. Assumes nothing.
 use lib.ListN.{length}
 use Prim.Native.Nat.{_+_}
 use mathlib.Core.Path.{_∙_}
@@ -6,31 +7,23 @@ use native.Mathlib.Omega.{arith}
 use borrow.Author.Needs.{needs}
 use Rattle.words.proofs.bytes.word_at.Statement.{statement}
 use Rattle.words.proofs.bytes.word_at.Tie as tie
-use Rattle.words.proofs.bytes.word_at.Reads as reads
-use Rattle.words.proofs.bytes.word_at.Lts as lts
-use Rattle.words.proofs.bytes.four.Reads as four-reads
 
--- src/bytes.rt:12:9
 returns : tie.Need-returns
 returns c =
     let a = c .before .before .args in
     simp (lt-leb (a .at + 4) (length (a .s .now)) (omega arith))
 
--- src/bytes.rt:14:8
 sub-if2 : tie.Need-sub-if2
 sub-if2 c = search needs
 
--- src/bytes.rt:15:9
 returns-2 : tie.Need-returns-2
 returns-2 c =
     let a = c .before .before .before .args in
     simp (lt-leb (a .at + 4) (length (a .s .now)) (omega arith))
 
--- src/bytes.rt:17:5
 four-requires : tie.Need-four-requires
 four-requires c κs = search needs
 
--- src/bytes.rt:8:1
 returns-3 : tie.Need-returns-3
 returns-3 c =
     let a = c .before .before .before .before .args in

@@ -1,15 +1,11 @@
+-- `words::field::lk` meets its contract. Assumes nothing.
 use lib.Dec.{eqb}
 use native.Mathlib.Nat.{div-one}
 use Prim.Native.Nat.{ℕ, _%_}
 use mathlib.Core.Path.{ap, sym}
-use native.Mathlib.Omega.{arith}
-use borrow.Author.Needs.{needs}
 use Rattle.words.proofs.field.lk.Statement.{statement}
 use Rattle.words.proofs.field.lk.Tie as tie
-use Rattle.words.proofs.field.lk.Reads as reads
-use Rattle.words.proofs.field.lk.Lts as lts
 
--- src/field.rt:127:1
 returns : tie.Need-returns
 returns c = ap (λ (x : ℕ). eqb (x % 2) 1) (sym (div-one (c .args .w)))
 

@@ -1,28 +1,22 @@
+-- `words::mask::rotate_left` meets its contract. Assumes nothing.
 use Rattle.words.proofs.Rotate.{rotate-none, rotate-some}
 use native.Mathlib.Omega.{arith}
 use borrow.Author.Needs.{needs}
 use Rattle.words.proofs.mask.rotate_left.Statement.{statement}
 use Rattle.words.proofs.mask.rotate_left.Tie as tie
-use Rattle.words.proofs.mask.rotate_left.Reads as reads
-use Rattle.words.proofs.mask.rotate_left.Lts as lts
 
--- src/mask.rt:27:9
 returns : tie.Need-returns
-returns c = let b = c .before in rotate-none (b .args .x) (b .args .n) (b .fits .x .fits) (c .if1 .taken)
+returns c = let b = c .before in rotate-none (b .args .x) (b .args .n) (b .fits .x .fits) (omega arith)
 
--- src/mask.rt:29:6
 shl-result : tie.Need-shl-result
 shl-result c = search needs
 
--- src/mask.rt:29:23
 sub-result : tie.Need-sub-result
 sub-result c = search needs
 
--- src/mask.rt:29:17
 shr-result : tie.Need-shr-result
 shr-result c = search needs
 
--- src/mask.rt:22:1
 returns-2 : tie.Need-returns-2
 returns-2 c = let b = c .before in rotate-some (b .args .x) (b .args .n) (b .fits .x .fits) (c .if1 .left)
 
