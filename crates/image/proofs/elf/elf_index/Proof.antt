@@ -45,7 +45,7 @@ shared-slice-read-if1 c = search needs
 
 -- src/elf.rt:20:13
 returns : tie.Need-returns Inv-loop μ-loop
-returns c = 
+returns c =
     let h = c .before .before .before in
     let a = h .before .before .before .args in
     sym (h .loop .inv .1 ∙ first-hit (hasElf (a .im .now) (a .elf)) _ (h .loop .i) (omega arith) (eq-eqb _ _ (c .if1 .taken)))
@@ -60,14 +60,14 @@ loop-less c = search needs
 
 -- src/elf.rt:18:5
 loop-again : tie.Need-loop-again Inv-loop μ-loop
-loop-again c = 
+loop-again c =
     let h = c .before .before .before in
     let a = h .before .before .before .args in
     (omega arith, h .loop .inv .1 ∙ first-miss (hasElf (a .im .now) (a .elf)) _ (h .loop .i) (omega arith) (ne-eqb _ _ (c .if1 .left)))
 
 -- src/elf.rt:12:1
 returns-2 : tie.Need-returns-2 Inv-loop μ-loop
-returns-2 c = 
+returns-2 c =
     let h = c .before in
     let a = h .before .before .before .args in
     sym (h .loop .inv .1 ∙ first-end (hasElf (a .im .now) (a .elf)) _ (h .loop .i) (omega arith))
