@@ -1,5 +1,7 @@
 // The image: tables of numbers in lent words, data in lent bytes (docs/FORMATS.md), and rule 1.
-// A function that requires `tablesSound` or `dataInside` is called by our own crates alone, after `check_image`.
+// A function that requires something of the image is called by our own crates alone, after `check_image`.
+pub mod elf;
+pub mod table;
 
 // One section: its address, size, kind and elf number, and the place and length of its data in the buffer.
 pub struct Section {

@@ -3,3 +3,4 @@ pub mod Sections
 pub mod Relocations
 pub mod Bytes
 pub mod Code
+pub mod Keys

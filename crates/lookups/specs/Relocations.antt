@@ -62,12 +62,15 @@ unboundTarget ws k r =
     (pick (differs k (r .kind)) Error (onFound (elfIndex ws (r .target)) (intoSection ws (r .addend)) Error))
     (To External)
 
+-- what the unbound table says of a section's elf number and an address
+abbrev pub unboundFor : List ℕ → ℕ → ℕ → Wanted → Relocation
+unboundFor ws elf a k = onFound (unboundIndex ws elf a) (λ (j : ℕ). unboundTarget ws k (unboundAt ws j)) Nothing
+
 -- what the tables say of a place; of a place in no section, nothing
 unfoldable pub relocationFor : List ℕ → SectionAddress → Wanted → Relocation
 relocationFor ws p k =
     pick (ltb (p .section) (sections ws))
-    (onFound (boundIndex ws p) (λ (j : ℕ). boundTarget k (boundAt ws j))
-    (onFound (unboundIndex ws (sectionAt ws (p .section) .elf) (p .address)) (λ (j : ℕ). unboundTarget ws k (unboundAt ws j)) Nothing))
+    (onFound (boundIndex ws p) (λ (j : ℕ). boundTarget k (boundAt ws j)) (unboundFor ws (sectionAt ws (p .section) .elf) (p .address) k))
     Nothing
 
 -- an error counts as no relocation
@@ -88,11 +91,14 @@ onTarget Missing z = z
 abbrev pub placeIn : ℕ → ℕ → MaybeTarget
 placeIn a i = Known (Address (record { section = i; address = a }))
 
--- the relocation at the instruction if any; else, Executable, the section holding the value;
+-- a value at an instruction of section i, with no relocation: Executable, the section holding the value;
 -- else the instruction's own section if it holds it; else nothing
-unfoldable pub sectionAddressFor : List ℕ → SectionAddress → ℕ → MaybeTarget
-sectionAddressFor ws p v =
-    onTarget (targetAt ws p)
-    (pick (eqb (imageKind ws) executableKind)
+abbrev pub bareAddress : List ℕ → ℕ → ℕ → MaybeTarget
+bareAddress ws i v =
+    pick (eqb (imageKind ws) executableKind)
     (onFound (atAddress ws v) (placeIn v) Missing)
-    (pick (ltb (p .section) (sections ws) && holds (sectionAt ws (p .section)) v) (placeIn v (p .section)) Missing))
+    (pick (ltb i (sections ws) && holds (sectionAt ws i) v) (placeIn v i) Missing)
+
+-- the relocation at the instruction if any; else the bare value
+unfoldable pub sectionAddressFor : List ℕ → SectionAddress → ℕ → MaybeTarget
+sectionAddressFor ws p v = onTarget (targetAt ws p) (bareAddress ws (p .section) v)

@@ -1,15 +1,19 @@
 -- Sections by address, and object symbols.
 -- Assumes nothing.
-use Prim.Native.Nat.{ℕ}
+use Prim.Native.Nat.{ℕ, _+_}
 use mathlib.Core.Bool.{Bool, _&&_}
 use mathlib.Core.List.{List}
-use lib.Dec.{eqb}
+use lib.Dec.{leb, ltb, eqb}
 use Rattle.words.specs.Choice.{pick}
 use Rattle.places.specs.declared.SectionAddress.{SectionAddress}
 use Rattle.search.specs.First.{first, onFound}
 use Rattle.search.specs.declared.Found.{Found}
 use Rattle.image.specs.Layout.{sections, symbols, sectionAt, symbolAt}
 use Rattle.image.specs.Rules.{holds}
+
+-- a section of that address and size holds an address
+abbrev pub within : ℕ → ℕ → ℕ → Bool
+within address size a = leb address a && ltb a (address + size)
 
 -- the first section that holds an address
 abbrev pub atAddress : List ℕ → ℕ → Found

@@ -4,6 +4,26 @@ use places::MaybeTarget;
 use places::RelocationTarget;
 use places::SectionAddress;
 
+pub mod bytes;
+pub mod code;
+pub mod relocations;
+pub mod sections;
+pub mod sorted;
+
+pub use bytes::data_from;
+pub use bytes::read_u32;
+pub use bytes::word_at_offset;
+pub use code::code_place;
+pub use code::word_number;
+pub use relocations::relocation_target_for;
+pub use relocations::section_address_for;
+pub use relocations::target_at;
+pub use relocations::unbound_index;
+pub use sections::at_address;
+pub use sorted::bound_index;
+pub use sorted::known_size;
+pub use sorted::symbol_index;
+
 // The relocation kind that is asked for, or any.
 pub enum Wanted {
     Any,

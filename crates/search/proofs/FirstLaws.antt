@@ -26,3 +26,7 @@ first-hit p n i h e = first-step p n i h ∙ rw e
 
 pub first-miss : (p : ℕ → Bool) (n i : ℕ) → i < n → p i ≡ false → firstFrom p (n - i) i ≡ firstFrom p (n - (i + 1)) (i + 1)
 first-miss p n i h e = first-step p n i h ∙ rw e
+
+-- a search begins
+pub first-start : (p : ℕ → Bool) (n : ℕ) → first p n ≡ firstFrom p (n - 0) 0
+first-start p n = let e : n - 0 ≡ n = omega arith in rw e

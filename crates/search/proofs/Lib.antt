@@ -1,3 +1,4 @@
 -- Laws of first matches and of tests at every number.
 pub mod FirstLaws
+pub mod FirstMatch
 pub mod EveryLaws

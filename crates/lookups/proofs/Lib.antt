@@ -1,0 +1,2 @@
+-- Laws of the lookups: what sound tables give, places in ascending order, and document 01's corners.
+pub mod SoundTables

@@ -1,0 +1,71 @@
+// Places of code, and the numbers of Code words.
+// Requires sound tables.
+ghost use mathlib.Core.Path.{_≡_};
+ghost use mathlib.Core.Bool.{true};
+ghost use Prim.Native.Nat.{_+_, _*_, _^_, _≤_, _<_};
+ghost use lib.ListN.{length};
+ghost use Rattle.image.specs.Rules.{tablesSound, wordsBefore};
+ghost use Rattle.lookups.specs.Code.{inCode, codePlace, wordsOfSize, wordNumber};
+use crate::CodePlace;
+use crate::WordNumber;
+use crate::sections::is_within;
+use image::table::section;
+use image::table::section_count;
+use places::SectionAddress;
+
+// NotCode (2) unless the place's own section exists, is Code and holds it; then Misaligned (3) unless its address is a
+// multiple of 4; else Fine.
+pub fn code_place(im: &[u32], at: SectionAddress) -> CodePlace
+    requires { ⌜ tablesSound (now im) ≡ true ⌝ }
+    ensures { λ r. ⌜ r ≡ codePlace (now (im .entry)) at ⌝ }
+{
+    let i = at.section as usize;
+    if section_count(im) <= i {
+        return CodePlace::NotCode;
+    }
+    let s = section(im, i);
+    if s.kind != 0 {
+        return CodePlace::NotCode;
+    }
+    if is_within(s.address, s.size, at.address) {
+        if at.address % 4 == 0 {
+            CodePlace::Fine
+        } else {
+            CodePlace::Misaligned
+        }
+    } else {
+        CodePlace::NotCode
+    }
+}
+
+// The number of the Code word at a place of code: it is below W. It reads two words of each section before the place's own.
+pub fn word_number(im: &[u32], at: SectionAddress) -> WordNumber
+    requires { ⌜ (tablesSound (now im) ≡ true) × (inCode (now im) at ≡ true) ⌝ }
+    ensures { λ r. ⌜ r .0 ≡ wordNumber (now (im .entry)) at ⌝ }
+{
+    let i = at.section as usize;
+    let before = words_before(im, i);
+    let from = im[i * 6 + 6];
+    WordNumber(before as u32 + (at.address - from) / 4)
+}
+
+// The Code words of the first n sections.
+pub fn words_before(im: &[u32], n: usize) -> usize
+    requires { ⌜ (n ≤ 64) × (n * 6 + 6 ≤ length (now im)) ⌝ }
+    ensures { λ r. ⌜ r ≡ wordsBefore (now (im .entry)) n ⌝ }
+{
+    let mut words: usize = 0;
+    let mut i: usize = 0;
+    while i < n {
+        words += words_of(im[i * 6 + 8], im[i * 6 + 7]);
+        i += 1;
+    }
+    words
+}
+
+// The Code words of a section of that kind and size.
+fn words_of(kind: u32, size: u32) -> usize
+    ensures { λ r. ⌜ (r ≡ wordsOfSize kind size) × (r < 2 ^ 30) ⌝ }
+{
+    if kind == 0 { (size / 4) as usize } else { 0 }
+}
