@@ -1,6 +1,7 @@
 -- States: new ones, those of the two sides of a call, and changes to all registers.
 -- Assumes nothing.
-use Prim.Native.Nat.{ℕ, _/_, _%_}
+use Prim.Native.Nat.{ℕ, suc}
+use mathlib.Core.Bool.{Bool}
 use mathlib.Core.List.{List, [], _∷_, _++_, map}
 use lib.ListN.{take, drop, replicate}
 use lib.Dec.{eqb}
@@ -50,10 +51,10 @@ resultOf v k g = onMark (g .value) (λ j. pick (eqb j k) (marked g v) g) g
 abbrev pub withResult : VM → GprValue → ℕ → VM
 withResult s v k = withGprs s (map (resultOf v k) (s .gpr))
 
--- register k becomes Unknown where bit k of the mask is set, the lowest bit being bit 0
-unfoldable pub clearedFrom : ℕ → List Gpr → List Gpr
-clearedFrom m [] = []
-clearedFrom m (g ∷ gs) = pick (eqb (m % 2) 1) blank g ∷ clearedFrom (m / 2) gs
+-- each register r with f r becomes Unknown; the list begins at register i
+unfoldable pub clearedFrom : (ℕ → Bool) → ℕ → List Gpr → List Gpr
+clearedFrom f i [] = []
+clearedFrom f i (g ∷ gs) = pick (f i) blank g ∷ clearedFrom f (suc i) gs
 
-abbrev pub clearedOf : VM → ℕ → VM
-clearedOf s m = withGprs s (clearedFrom m (s .gpr))
+abbrev pub clearedOf : VM → (ℕ → Bool) → VM
+clearedOf s f = withGprs s (clearedFrom f 0 (s .gpr))

@@ -4,6 +4,7 @@ pub mod register;
 pub mod rule;
 pub mod splits;
 pub mod state;
+
 use places::MaybeAddress;
 use places::RelocationTarget;
 

@@ -155,7 +155,11 @@ pub fn max_offset(index: GprValue) -> TableSize
     ensures { λ r. ⌜ r ≡ maxOffset index ⌝ }
 {
     match index {
-        GprValue::Range { min: _, max, step: _ } => {
+        GprValue::Range {
+            min: _,
+            max,
+            step: _,
+        } => {
             let small = max < 4_294_967_291;
             let whole = max % 4 == 0;
             if small & whole {

@@ -24,10 +24,7 @@ fn most(a: u32, b: u32) -> u32
 fn both(v: GprValue) -> Split
     ensures { λ r. ⌜ r ≡ bothOf v ⌝ }
 {
-    Split {
-        fails: v,
-        holds: v,
-    }
+    Split { fails: v, holds: v }
 }
 
 fn lt(left: GprValue, right: GprValue) -> Split

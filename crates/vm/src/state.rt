@@ -3,7 +3,7 @@
 ghost use mathlib.Core.Path.{_≡_};
 ghost use Prim.Native.Nat.{_<_};
 ghost use Rattle.vm.specs.Registers.{withReg, direct};
-ghost use Rattle.vm.specs.States.{fresh, basesOf, withBase, linkOf, savedFrom, returnOf, resultOf, withResult, clearedOf};
+ghost use Rattle.vm.specs.States.{fresh, basesOf, withBase, linkOf, savedFrom, returnOf, resultOf, withResult};
 use crate::Cr;
 use crate::Gpr;
 use crate::GprValue;
@@ -23,7 +23,9 @@ pub fn new() -> VM
         right: GprValue::Unknown,
         signed: false,
     };
-    let h = Held { value: GprValue::Unknown };
+    let h = Held {
+        value: GprValue::Unknown,
+    };
     let gs = [g; 32];
     let cs = [c; 8];
     VM {
@@ -102,13 +104,7 @@ fn result_known(g: Gpr, value: GprValue, crf: u8) -> Gpr
 {
     let w = g.value;
     match w {
-        GprValue::ComparisonResult(j) => {
-            if j == crf {
-                with_value(g, value)
-            } else {
-                g
-            }
-        }
+        GprValue::ComparisonResult(j) => { if j == crf { with_value(g, value) } else { g } }
         _ => g,
     }
 }
