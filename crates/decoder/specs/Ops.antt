@@ -1,8 +1,11 @@
--- The operations by number, in the order of the enum.
+-- The operations and the kinds of what is written, by number, in the order of the enums.
 -- Assumes nothing.
 use Prim.Native.Nat.{ℕ}
+use mathlib.Core.List.{List, [], _∷_}
 use Rattle.decoder.specs.declared.Op.{Op}
 use Rattle.decoder.specs.declared.Op.the-variants.{Illegal, Other, Subfic, Cmpli, Cmpi, Addic, AddicDot, Addi, Addis, Bc, B, Rlwinm, Rlwnm, Ori, Lwz, Lwzu, Lbz, Lbzu, Stw, Stwu, Stb, Stbu, Lhz, Lhzu, Lha, Lhau, Sth, Sthu, Lmw, Stmw, Lfs, Lfsu, Lfd, Lfdu, Stfs, Stfsu, Stfd, Stfdu, Bclr, Rfi, Bcctr, Cmp, Cmpl, Lwzx, Mfspr, Mtspr, Or, Add, Subf, Subfc}
+use Rattle.decoder.specs.declared.Writes.{Writes}
+use Rattle.decoder.specs.declared.Writes.the-variants.{Nothing, Rd, Ra, RdRa}
 
 abbrev pub numberOf : Op → ℕ
 numberOf Illegal = 0
@@ -55,3 +58,15 @@ numberOf Or = 46
 numberOf Add = 47
 numberOf Subf = 48
 numberOf Subfc = 49
+
+unfoldable pub names : List Op
+names = Illegal ∷ Other ∷ Subfic ∷ Cmpli ∷ Cmpi ∷ Addic ∷ AddicDot ∷ Addi ∷ Addis ∷ Bc ∷ B ∷ Rlwinm ∷ Rlwnm ∷ Ori ∷ Lwz ∷ Lwzu ∷ Lbz ∷ Lbzu ∷ Stw ∷ Stwu ∷ Stb ∷ Stbu ∷ Lhz ∷ Lhzu ∷ Lha ∷ Lhau ∷ Sth ∷ Sthu ∷ Lmw ∷ Stmw ∷ Lfs ∷ Lfsu ∷ Lfd ∷ Lfdu ∷ Stfs ∷ Stfsu ∷ Stfd ∷ Stfdu ∷ Bclr ∷ Rfi ∷ Bcctr ∷ Cmp ∷ Cmpl ∷ Lwzx ∷ Mfspr ∷ Mtspr ∷ Or ∷ Add ∷ Subf ∷ Subfc ∷ []
+
+abbrev pub kindNumber : Writes → ℕ
+kindNumber Nothing = 0
+kindNumber Rd = 1
+kindNumber Ra = 2
+kindNumber RdRa = 3
+
+unfoldable pub kinds : List Writes
+kinds = Nothing ∷ Rd ∷ Ra ∷ RdRa ∷ []

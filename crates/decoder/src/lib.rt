@@ -5,6 +5,7 @@ ghost use Rattle.decoder.specs.Decode.{decoded, displacementOf, branchDe
 ghost use Rattle.decoder.specs.Written.{setBy, writtenSet, lowestOf};
 
 pub mod class;
+mod index;
 mod table;
 
 // What `step` tells apart. Illegal: a word that document 01 does not list. Other: a listed word
@@ -80,11 +81,10 @@ pub struct Decoded {
 pub fn decode(w: u32) -> Decoded
     ensures { λ r. ⌜ r ≡ decoded w ⌝ }
 {
-    let i = table::row_of(w);
-    Decoded {
-        op: table::op_at(i),
-        writes: table::writes_at(i),
-    }
+    let i = table::row_of(w) as usize;
+    let op = table::op_named(table::OPS[i]);
+    let writes = table::kind_named(table::WRITES[i]);
+    Decoded { op, writes }
 }
 
 // The registers that a word of this kind writes, as a set: register r is in it where the bit of

@@ -1,0 +1,5 @@
+-- What the proofs here rest on, and the laws that the layers above cite.
+pub mod Names
+pub mod Columns
+pub mod Arms
+pub mod Sets
