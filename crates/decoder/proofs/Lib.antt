@@ -3,3 +3,4 @@ pub mod Names
 pub mod Columns
 pub mod Arms
 pub mod Sets
+pub mod Lowest
