@@ -4,3 +4,4 @@ pub mod Columns
 pub mod Arms
 pub mod Sets
 pub mod Lowest
+pub mod Blank

@@ -2,6 +2,7 @@
 -- Assumes nothing.
 use Prim.Native.Nat.{ℕ, zero, suc, _+_, _-_, _/_, _%_, _^_}
 use mathlib.Core.Bool.{Bool, true, false, _||_}
+use mathlib.Core.List.{List, [], _∷_}
 use lib.Dec.{eqb}
 use lib.Count.{trailingZeros}
 use Rattle.words.specs.Choice.{pick}
@@ -42,3 +43,8 @@ writtenSet w = setBy (decoded w .writes) w
 -- the lowest register of a set, 32 of the empty one, and the set without it
 abbrev pub lowestOf : ℕ → Taken
 lowestOf s = record { register = trailingZeros 32 s; rest = s - 2 ^ trailingZeros 32 s }
+
+-- a list from register i on, blank where the test holds
+unfoldable pub blankWhere : {A : Type 0} → A → (ℕ → Bool) → ℕ → List A → List A
+blankWhere blank f i [] = []
+blankWhere blank f i (x ∷ xs) = pick (f i) blank x ∷ blankWhere blank f (suc i) xs
