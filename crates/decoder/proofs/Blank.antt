@@ -46,10 +46,10 @@ module _ {A : Type 0} (blank : A) where
       (already (f i) ∙ ap (λ (b : Bool). pick b blank x) (sym t ∙ ap g (add-zero i)))
       (blank-after f g (suc i) xs (λ r l. h r (omega arith)))
     where
-    blank-after : (f g : ℕ → Bool) (k : ℕ) (ys : List A) → ((r : ℕ) → k ≤ r → f r ≡ g r) → blankWhere blank f k ys ≡ blankWhere blank g k ys
-    blank-after f g k [] e = refl
-    blank-after f g k (y ∷ ys) e =
-        ap₂ (λ (b : Bool) (l : List A). pick b blank y ∷ l) (e k (omega arith)) (blank-after f g (suc k) ys (λ r l. e r (omega arith)))
+      blank-after : (f g : ℕ → Bool) (k : ℕ) (ys : List A) → ((r : ℕ) → k ≤ r → f r ≡ g r) → blankWhere blank f k ys ≡ blankWhere blank g k ys
+      blank-after f g k [] e = refl
+      blank-after f g k (y ∷ ys) e =
+          ap₂ (λ (b : Bool) (l : List A). pick b blank y ∷ l) (e k (omega arith)) (blank-after f g (suc k) ys (λ r l. e r (omega arith)))
   blank-now f g i (suc j) (x ∷ xs) h t =
       let e : i + suc j ≡ suc i + j = add-suc i j ∙ sym (suc-add i j) in
       ap₂ (λ (b : Bool) (l : List A). pick b blank x ∷ l)

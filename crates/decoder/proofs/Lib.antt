@@ -5,3 +5,5 @@ pub mod Arms
 pub mod Sets
 pub mod Lowest
 pub mod Blank
+pub mod Told
+pub mod Cases
