@@ -1,10 +1,12 @@
 // Section records lent as a slice: the first match by address and by elf number, and the way into the image's words.
 // A function over `&[Section]` is proved by a walk of its code; the tests and stores that it calls are covered.
 ghost use mathlib.Core.Path.{_≡_};
-ghost use Prim.Native.Nat.{_+_, _*_, _≤_};
+ghost use Prim.Native.Nat.{_+_, _*_, _<_, _≤_};
 ghost use lib.ListN.{length};
+ghost use Rattle.image.specs.Numbers.{maxSections};
 ghost use Rattle.image.specs.Rules.{holds};
 ghost use Rattle.records.specs.Records.{numbered, recordAt, recordByElf};
+ghost use Rattle.records.specs.Written.{withSection, withSections, writable, written};
 use image::Section;
 use search::Found;
 
@@ -51,4 +53,64 @@ pub fn section_by_elf(t: &[Section], elf: u32) -> Found
         i += 1;
     }
     Found::Nothing
+}
+
+// What writing records into the image's words answers: how many, or why none.
+pub enum Written {
+    TooMany,
+    NoRoom,
+    Sections(usize),
+}
+
+// How many of n records are written into m words: all of them, or none.
+fn count_of(n: usize, m: usize) -> usize
+    ensures { λ r. ⌜ r ≡ writable n m ⌝ }
+{
+    if 64 < n {
+        return 0;
+    }
+    if m < n * 6 + 6 {
+        return 0;
+    }
+    n
+}
+
+// The answer for n records and m words.
+fn answer_of(n: usize, m: usize) -> Written
+    ensures { λ r. ⌜ r ≡ written n m ⌝ }
+{
+    if 64 < n {
+        return Written::TooMany;
+    }
+    if m < n * 6 + 6 {
+        return Written::NoRoom;
+    }
+    Written::Sections(n)
+}
+
+// Writes record i into its six words.
+fn put_section(words: &mut [u32], i: usize, s: Section)
+    requires { ⌜ (i < maxSections) × (i * 6 + 12 ≤ length (now words)) ⌝ }
+    ensures { λ _. ⌜ now (words .exit) ≡ withSection (now (words .entry)) i s ⌝ }
+{
+    words[i * 6 + 6] = s.address;
+    words[i * 6 + 7] = s.size;
+    words[i * 6 + 8] = s.kind;
+    words[i * 6 + 9] = s.elf;
+    words[i * 6 + 10] = s.place;
+    words[i * 6 + 11] = s.length;
+}
+
+// Writes the records into the words of the section table, which begins at word 6, and answers how many.
+// The other words stay. More than 64 records, or fewer words than 6 and 6 for each: none is written, and the answer says so.
+pub fn write_sections(t: &[Section], words: &mut [u32]) -> Written
+    ensures { λ r. ⌜ (r ≡ written (length (now (t .entry))) (length (now (words .entry)))) × (now (words .exit) ≡ withSections (now (words .entry)) (now (t .entry))) ⌝ }
+{
+    let n = count_of(t.len(), words.len());
+    let mut i = 0;
+    while i < n {
+        put_section(words, i, t[i]);
+        i += 1;
+    }
+    answer_of(t.len(), words.len())
 }
