@@ -1,2 +1,4 @@
--- What the walks share.
+-- What the walks share, and what is shown of the words that are written.
+pub mod Again
 pub mod Search
+pub mod WrittenLaws
