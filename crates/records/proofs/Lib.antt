@@ -2,3 +2,4 @@
 pub mod Again
 pub mod Search
 pub mod WrittenLaws
+pub mod Read

@@ -1,9 +1,10 @@
 -- Section records written into the image's words: docs/FORMATS.md, "The image".
 -- Assumes nothing.
-use Prim.Native.Nat.{ℕ, suc, _+_, _*_}
+use Prim.Native.Nat.{ℕ, _+_, _*_}
 use mathlib.Core.Bool.{Bool, _&&_}
-use mathlib.Core.List.{List, [], _∷_}
-use lib.ListN.{length, set}
+use mathlib.Core.List.{List, [], _∷_, _++_}
+use lib.ListN.{length}
+use lib.Seq.{sets}
 use lib.Dec.{leb}
 use Rattle.words.specs.Choice.{pick}
 use Rattle.image.specs.declared.Section.{Section}
@@ -19,26 +20,30 @@ few n = leb n maxSections
 abbrev pub roomy : ℕ → ℕ → Bool
 roomy n m = leb (n * 6 + 6) m
 
+-- n records are written into m words
+abbrev pub fits : ℕ → ℕ → Bool
+fits n m = few n && roomy n m
+
+-- a section's six words
+abbrev pub sectionWords : Section → List ℕ
+sectionWords s = s .address ∷ s .size ∷ s .kind ∷ s .elf ∷ s .place ∷ s .length ∷ []
+
+-- the words of records one after another
+unfoldable pub tableWords : List Section → List ℕ
+tableWords [] = []
+tableWords (s ∷ ss) = sectionWords s ++ tableWords ss
+
 -- the words with s for record i
 abbrev pub withSection : List ℕ → ℕ → Section → List ℕ
-withSection ws i s =
-    set
-    (set (set (set (set (set ws (i * 6 + 6) (s .address)) (i * 6 + 7) (s .size)) (i * 6 + 8) (s .kind)) (i * 6 + 9) (s .elf)) (i * 6 + 10) (s .place))
-    (i * 6 + 11)
-    (s .length)
-
--- the words with records from number i on
-unfoldable pub withFrom : List ℕ → ℕ → List Section → List ℕ
-withFrom ws i [] = ws
-withFrom ws i (s ∷ ss) = withFrom (withSection ws i s) (suc i) ss
+withSection ws i s = sets ws (i * 6 + 6) (sectionWords s)
 
 -- how many of n records are written into m words: all of them, or none
 abbrev pub writable : ℕ → ℕ → ℕ
-writable n m = pick (few n && roomy n m) n 0
+writable n m = pick (fits n m) n 0
 
 -- the words with the records: all of them, or none
 abbrev pub withSections : List ℕ → List Section → List ℕ
-withSections ws t = pick (few (length t) && roomy (length t) (length ws)) (withFrom ws 0 t) ws
+withSections ws t = pick (fits (length t) (length ws)) (sets ws 6 (tableWords t)) ws
 
 -- the answer for n records and m words
 abbrev pub written : ℕ → ℕ → Written

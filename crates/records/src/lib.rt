@@ -93,12 +93,13 @@ fn put_section(words: &mut [u32], i: usize, s: Section)
     requires { ⌜ (i < maxSections) × (i * 6 + 12 ≤ length (now words)) ⌝ }
     ensures { λ _. ⌜ now (words .exit) ≡ withSection (now (words .entry)) i s ⌝ }
 {
-    words[i * 6 + 6] = s.address;
-    words[i * 6 + 7] = s.size;
-    words[i * 6 + 8] = s.kind;
-    words[i * 6 + 9] = s.elf;
-    words[i * 6 + 10] = s.place;
-    words[i * 6 + 11] = s.length;
+    let at = i * 6 + 6;
+    words[at] = s.address;
+    words[at + 1] = s.size;
+    words[at + 2] = s.kind;
+    words[at + 3] = s.elf;
+    words[at + 4] = s.place;
+    words[at + 5] = s.length;
 }
 
 // Writes the records into the words of the section table, which begins at word 6, and answers how many.

@@ -1,13 +1,24 @@
--- `records::put_section` meets its contract: six stores, one after another, at places inside the words.
+-- `records::put_section` meets its contract: six stores, one after another, inside the words.
 -- Assumes nothing.
 use native.Mathlib.Omega.{arith}
+use Prim.Native.Nat.{_+_, _*_}
 use lib.ListN.{length-set}
 use borrow.Author.Needs.{needs}
+use Rattle.records.proofs.WrittenLaws.{six-stores}
 use Rattle.records.proofs.put_section.Statement.{statement}
 use Rattle.records.proofs.put_section.Tie as tie
 
+mul-at : tie.Need-mul-at
+mul-at c = search needs
+
+add-at : tie.Need-add-at
+add-at c = search needs
+
 mul-words : tie.Need-mul-words
 mul-words c = search needs
+
+slice-write-words : tie.Need-slice-write-words
+slice-write-words c = search needs
 
 add-words : tie.Need-add-words
 add-words c = search needs
@@ -15,65 +26,41 @@ add-words c = search needs
 mul-words-2 : tie.Need-mul-words-2
 mul-words-2 c = search needs
 
-slice-write-words : tie.Need-slice-write-words
-slice-write-words c = search needs
-
-mul-words-3 : tie.Need-mul-words-3
-mul-words-3 c = search needs
+slice-write-words-2 : tie.Need-slice-write-words-2
+slice-write-words-2 c = simp length-set (omega arith)
 
 add-words-2 : tie.Need-add-words-2
 add-words-2 c = search needs
 
-mul-words-4 : tie.Need-mul-words-4
-mul-words-4 c = search needs
-
-slice-write-words-2 : tie.Need-slice-write-words-2
-slice-write-words-2 c = simp length-set (omega arith)
-
-mul-words-5 : tie.Need-mul-words-5
-mul-words-5 c = search needs
-
-add-words-3 : tie.Need-add-words-3
-add-words-3 c = search needs
-
-mul-words-6 : tie.Need-mul-words-6
-mul-words-6 c = search needs
+mul-words-3 : tie.Need-mul-words-3
+mul-words-3 c = search needs
 
 slice-write-words-3 : tie.Need-slice-write-words-3
 slice-write-words-3 c = simp length-set (omega arith)
 
-mul-words-7 : tie.Need-mul-words-7
-mul-words-7 c = search needs
+add-words-3 : tie.Need-add-words-3
+add-words-3 c = search needs
 
-add-words-4 : tie.Need-add-words-4
-add-words-4 c = search needs
-
-mul-words-8 : tie.Need-mul-words-8
-mul-words-8 c = search needs
+mul-words-4 : tie.Need-mul-words-4
+mul-words-4 c = search needs
 
 slice-write-words-4 : tie.Need-slice-write-words-4
 slice-write-words-4 c = simp length-set (omega arith)
 
-mul-words-9 : tie.Need-mul-words-9
-mul-words-9 c = search needs
+add-words-4 : tie.Need-add-words-4
+add-words-4 c = search needs
 
-add-words-5 : tie.Need-add-words-5
-add-words-5 c = search needs
-
-mul-words-10 : tie.Need-mul-words-10
-mul-words-10 c = search needs
+mul-words-5 : tie.Need-mul-words-5
+mul-words-5 c = search needs
 
 slice-write-words-5 : tie.Need-slice-write-words-5
 slice-write-words-5 c = simp length-set (omega arith)
 
-mul-words-11 : tie.Need-mul-words-11
-mul-words-11 c = search needs
+add-words-5 : tie.Need-add-words-5
+add-words-5 c = search needs
 
-add-words-6 : tie.Need-add-words-6
-add-words-6 c = search needs
-
-mul-words-12 : tie.Need-mul-words-12
-mul-words-12 c = search needs
+mul-words-6 : tie.Need-mul-words-6
+mul-words-6 c = search needs
 
 slice-write-words-6 : tie.Need-slice-write-words-6
 slice-write-words-6 c = simp length-set (omega arith)
@@ -82,35 +69,32 @@ same-length : tie.Need-same-length
 same-length c = search needs
 
 returns : tie.Need-returns
-returns c = search needs
+returns c =
+    let x = c .args in
+    six-stores (x .words .now) (x .i * 6 + 6) (x .s .address) (x .s .size) (x .s .kind) (x .s .elf) (x .s .place) (x .s .length)
 
 pub put-section-spec : {M : Type 1} → statement M
 put-section-spec =
     tie.close
     (tie.spec
+    mul-at
+    add-at
     mul-words
+    slice-write-words
     add-words
     mul-words-2
-    slice-write-words
-    mul-words-3
-    add-words-2
-    mul-words-4
     slice-write-words-2
-    mul-words-5
-    add-words-3
-    mul-words-6
+    add-words-2
+    mul-words-3
     slice-write-words-3
-    mul-words-7
-    add-words-4
-    mul-words-8
+    add-words-3
+    mul-words-4
     slice-write-words-4
-    mul-words-9
-    add-words-5
-    mul-words-10
+    add-words-4
+    mul-words-5
     slice-write-words-5
-    mul-words-11
-    add-words-6
-    mul-words-12
+    add-words-5
+    mul-words-6
     slice-write-words-6
     same-length
     returns)

@@ -4,7 +4,7 @@ use mathlib.Core.Path.{_≡_, refl, sym, _∙_, ap, subst}
 use Prim.Native.Nat.{ℕ, _+_, _-_, _<_, _≤_, _^_, _*_}
 use native.Mathlib.Omega.{arith}
 use native.Mathlib.Decide.{decLt}
-use mathlib.Core.Bool.{Bool, _&&_}
+use mathlib.Core.Bool.{Bool}
 use mathlib.Core.List.{List, [], _∷_}
 use mathlib.Core.WellFounded.{WellFounded, InvImage·wf}
 use lib.ListN.{length, drop as drop′}
@@ -55,10 +55,10 @@ use Rattle.image.proofs.Section as T
 use Rattle.image.proofs.Section.Laws as T′
 use Rattle.records.specs.declared.Written.{Written}
 use Rattle.records.specs.Records.{noRecord, record#}
-use Rattle.records.specs.Written.{few, roomy, withSection, withFrom, writable, withSections, written}
+use Rattle.records.specs.Written.{fits, withSection, writable, withSections, written}
 use Rattle.records.proofs.Written as R
 use Rattle.records.proofs.Written.Laws as R′
-use Rattle.records.proofs.WrittenLaws.{record-keeps-length, more-written, all-written, has-room}
+use Rattle.records.proofs.WrittenLaws.{withFrom, more-written, all-written, has-room}
 use Rattle.records.proofs.Again.{LentAgain, lends-again, comes-back}
 use Rattle.records.proofs.count_of as count
 use Rattle.records.proofs.count_of.Symbol as count-def
@@ -154,7 +154,7 @@ module _ {M : Type 1} (𝓤 : URA M) (H : Heap 𝓤) (A : Atoms 𝓤) (W : Given
 
   -- whether any record is written, and how many are
   abbrev ok : Bool
-  ok = few n && roomy n (length ws)
+  ok = fits n (length ws)
 
   abbrev m : ℕ
   m = writable n (length ws)
