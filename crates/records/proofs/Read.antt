@@ -1,13 +1,13 @@
 -- What the words say once records are written into them: each record where the image looks for it, every other word as it was, and the same answer to every search.
 -- Assumes nothing.
-use mathlib.Core.Path.{_≡_, refl, sym, ap, _∙_}
-use mathlib.Core.Bool.{Bool, true, false}
+use mathlib.Core.Path.{_≡_, refl, ap, _∙_}
+use mathlib.Core.Bool.{Bool, true, false, _&&_}
 use mathlib.Core.List.{List, [], _∷_, _++_}
 use mathlib.Core.Logic.{_⊎_, inl, ⊎-elim}
 use Prim.Native.Nat.{ℕ, zero, suc, _+_, _*_, _<_, _≤_}
 use native.Mathlib.Nat.{not-suc-le-zero, add-zero, le-of-suc-le-suc}
 use native.Mathlib.Omega.{arith}
-use lib.ListN.{length, getD, set, length-set}
+use lib.ListN.{length, set, length-set}
 use lib.Seq.{sets, length-sets, getD-set-same, getD-set-other}
 use Rattle.words.specs.Choice.{pick}
 use Rattle.search.specs.First.{firstFrom, first}
@@ -16,8 +16,10 @@ use Rattle.search.specs.declared.Found.the-variants.{At}
 use Rattle.image.specs.declared.Section.{Section}
 use Rattle.image.specs.Layout.{word, sections, sectionAt}
 use Rattle.image.specs.Rules.{holds, hasElf, elfIndex}
-use Rattle.records.specs.Records.{noRecord, record#, numbered, firstRecord, recordAt, recordByElf}
-use Rattle.records.specs.Written.{fits, sectionWords, tableWords, withSections}
+use Rattle.records.specs.Records.{record#, numbered, firstRecord, recordAt, recordByElf}
+use Rattle.records.specs.Written.{few, roomy, fits, sectionWords, tableWords, withSections, written}
+use Rattle.records.specs.declared.Written.{Written}
+use Rattle.records.specs.declared.Written.the-variants.{TooMany, NoRoom, Sections}
 use Rattle.records.proofs.WrittenLaws.{fit-room}
 
 -- ---- a run of stores, read
@@ -85,6 +87,21 @@ record-stands ws t i room h =
         let r : 6 + length (tableWords t) ≤ length ws = omega arith in
         let l′ : j < length (tableWords t) = omega arith in
         ap (word (sets ws 6 (tableWords t))) e ∙ stored-at ws 6 (tableWords t) j r l′
+
+-- one more than an answer's number of sections, 0 for a refusal
+abbrev count : Written → ℕ
+count TooMany = 0
+count NoRoom = 0
+count (Sections n) = suc n
+
+-- an answer of so many sections says that the records fit, and that it is all of them
+pub answer-fits : (n m k : ℕ) → written n m ≡ Sections k → (fits n m ≡ true) × (k ≡ n)
+answer-fits n m k e = by-case (few n) (roomy n m) e
+  where
+    by-case : (a b : Bool) → pick a (pick b (Sections n) NoRoom) TooMany ≡ Sections k → (a && b ≡ true) × (k ≡ n)
+    by-case true true e = let h : suc n ≡ suc k = ap count e in (refl, omega arith)
+    by-case true false e = let h : 0 ≡ suc k = ap count e in absurd (omega arith)
+    by-case false b e = let h : 0 ≡ suc k = ap count e in absurd (omega arith)
 
 -- record i stands where the image looks for it
 pub written-record : (ws : List ℕ) (t : List Section) (i : ℕ) → fits (length t) (length ws) ≡ true → i < length t → sectionAt (withSections ws t) i ≡ record# t i

@@ -88,7 +88,7 @@ fn answer_of(n: usize, m: usize) -> Written
     Written::Sections(n)
 }
 
-// Writes record i into its six words.
+// Writes record i into its six words, which the words have. No other word changes.
 fn put_section(words: &mut [u32], i: usize, s: Section)
     requires { ⌜ (i < maxSections) × (i * 6 + 12 ≤ length (now words)) ⌝ }
     ensures { λ _. ⌜ now (words .exit) ≡ withSection (now (words .entry)) i s ⌝ }
