@@ -16,7 +16,7 @@ use Rattle.search.specs.declared.Found.the-variants.{At}
 use Rattle.image.specs.declared.Section.{Section}
 use Rattle.image.specs.Layout.{word, sections, sectionAt}
 use Rattle.image.specs.Rules.{holds, hasElf, elfIndex}
-use Rattle.records.specs.Records.{record#, numbered, firstRecord, recordAt, recordByElf}
+use Rattle.records.specs.Records.{nthRecord, numbered, firstRecord, recordAt, recordByElf}
 use Rattle.records.specs.Written.{few, roomy, fits, sectionWords, tableWords, withSections, written}
 use Rattle.records.specs.declared.Written.{Written}
 use Rattle.records.specs.declared.Written.the-variants.{TooMany, NoRoom, Sections}
@@ -60,7 +60,7 @@ sectionFrom vs k = record { address = word vs k; size = word vs (k + 1); kind = 
 same-section : (s t : Section) → s .address ≡ t .address → s .size ≡ t .size → s .kind ≡ t .kind → s .elf ≡ t .elf → s .place ≡ t .place → s .length ≡ t .length → s ≡ t
 same-section s t a b c d e f = λ i. record { address = a i; size = b i; kind = c i; elf = d i; place = e i; length = f i }
 
-table-record : (t : List Section) (i : ℕ) → i < length t → sectionFrom (tableWords t) (i * 6) ≡ record# t i
+table-record : (t : List Section) (i : ℕ) → i < length t → sectionFrom (tableWords t) (i * 6) ≡ nthRecord t i
 unfolding tableWords
 table-record [] i h = absurd (not-suc-le-zero h)
 table-record (s ∷ t) zero h = refl
@@ -74,7 +74,7 @@ table-record (s ∷ t) (suc i) h =
     next k j e = ap (word (sectionWords s ++ tableWords t)) e ∙ past-section s (tableWords t) j
 
 -- ---- the words that are written
-record-stands : (ws : List ℕ) (t : List Section) (i : ℕ) → length t * 6 + 6 ≤ length ws → i < length t → sectionAt (sets ws 6 (tableWords t)) i ≡ record# t i
+record-stands : (ws : List ℕ) (t : List Section) (i : ℕ) → length t * 6 + 6 ≤ length ws → i < length t → sectionAt (sets ws 6 (tableWords t)) i ≡ nthRecord t i
 record-stands ws t i room h =
     same-section (sectionAt (sets ws 6 (tableWords t)) i) (sectionFrom (tableWords t) (i * 6))
     (reads (i * 6 + 6) (i * 6) (omega arith) (omega arith)) (reads (i * 6 + 7) (i * 6 + 1) (omega arith) (omega arith)) (reads (i * 6 + 8) (i * 6 + 2) (omega arith) (omega arith))
@@ -104,7 +104,7 @@ answer-fits n m k e = by-case (few n) (roomy n m) e
     by-case false b e = let h : 0 ≡ suc k = ap count e in absurd (omega arith)
 
 -- record i stands where the image looks for it
-pub written-record : (ws : List ℕ) (t : List Section) (i : ℕ) → fits (length t) (length ws) ≡ true → i < length t → sectionAt (withSections ws t) i ≡ record# t i
+pub written-record : (ws : List ℕ) (t : List Section) (i : ℕ) → fits (length t) (length ws) ≡ true → i < length t → sectionAt (withSections ws t) i ≡ nthRecord t i
 written-record ws t i ok h = rw ok (record-stands ws t i (fit-room (length t) (length ws) ok) h)
 
 -- the words are as many as before
@@ -138,7 +138,7 @@ first-from-agrees p q n (suc m) i same l =
 pub same-found : (p : Section → ℕ → Bool) (ws : List ℕ) (t : List Section) (v : ℕ) → fits (length t) (length ws) ≡ true
     → first (λ (i : ℕ). p (sectionAt (withSections ws t) i) v) (length t) ≡ firstRecord p t v
 same-found p ws t v ok =
-    first-from-agrees (λ (i : ℕ). p (sectionAt (withSections ws t) i) v) (λ (i : ℕ). p (record# t i) v) (length t) (length t) 0
+    first-from-agrees (λ (i : ℕ). p (sectionAt (withSections ws t) i) v) (λ (i : ℕ). p (nthRecord t i) v) (length t) (length t) 0
     (λ k l. ap (λ (s : Section). p s v) (written-record ws t k ok l)) (omega arith)
 
 -- by address

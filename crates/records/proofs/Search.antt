@@ -53,7 +53,7 @@ use Rattle.search.proofs.Found.Laws as F′
 use Rattle.image.specs.declared.Section.{Section}
 use Rattle.image.proofs.Section as T
 use Rattle.image.proofs.Section.Laws as T′
-use Rattle.records.specs.Records.{noRecord, record#, firstRecord}
+use Rattle.records.specs.Records.{noRecord, nthRecord, firstRecord}
 use Rattle.records.proofs.SearchCode.{word, slice, more, turn, rest, function}
 use Rattle.records.proofs.section_holds as test
 use Rattle.records.proofs.section_at as f
@@ -111,7 +111,7 @@ module _ {M : Type 1} (𝓤 : URA M) (H : Heap 𝓤) (A : Atoms 𝓤) (W : Given
   n = length ys
 
   abbrev hits : ℕ → Bool
-  hits i = p (record# ys i) v
+  hits i = p (nthRecord ys i) v
 
   abbrev at : Vals f.signature (κ, tt)
   at = (sliceVal (b, o) n ∷ [], (vint w32 v ∷ [], tt))
@@ -225,7 +225,7 @@ module _ {M : Type 1} (𝓤 : URA M) (H : Heap 𝓤) (A : Atoms 𝓤) (W : Given
         again ! Nearer Here i (i .0 + 1, omega arith, i .2 ∙ first-miss hits n (i .0) less (sym e ∙ is-false r missed)) nearer))))))
       where
         elem : Section
-        elem = record# ys (i .0)
+        elem = nthRecord ys (i .0)
 
         mach : Val
         mach = LL.val T.the-type T′.the-laws elem

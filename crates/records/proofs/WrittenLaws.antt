@@ -13,7 +13,7 @@ use borrow.Author.Tests.{leb-true}
 use Rattle.words.specs.Choice.{pick}
 use Rattle.search.proofs.EveryLaws.{and-left, and-right}
 use Rattle.image.specs.declared.Section.{Section}
-use Rattle.records.specs.Records.{noRecord, record#}
+use Rattle.records.specs.Records.{noRecord, nthRecord}
 use Rattle.records.specs.Written.{few, roomy, fits, sectionWords, tableWords, withSection, writable}
 
 -- six stores one after another
@@ -34,12 +34,12 @@ sets-joined ws i (u ∷ us) vs = let e : suc i + length us ≡ i + suc (length u
 abbrev pub withFrom : List ℕ → ℕ → List Section → List ℕ
 withFrom ws i t = sets ws (i * 6 + 6) (tableWords t)
 
-from-more : (zs : List ℕ) (t : List Section) (i : ℕ) → i < length t → withFrom zs i (drop i t) ≡ withFrom (withSection zs i (record# t i)) (i + 1) (drop (i + 1) t)
+from-more : (zs : List ℕ) (t : List Section) (i : ℕ) → i < length t → withFrom zs i (drop i t) ≡ withFrom (withSection zs i (nthRecord t i)) (i + 1) (drop (i + 1) t)
 unfolding tableWords
 from-more zs t i h =
     let e : i * 6 + 6 + 6 ≡ suc i * 6 + 6 = omega arith in
     rw (drop-cons t i noRecord h, add-one i)
-    (sets-joined zs (i * 6 + 6) (sectionWords (record# t i)) (tableWords (drop (suc i) t)) ∙ ap (λ (k : ℕ). sets (withSection zs i (record# t i)) k (tableWords (drop (suc i) t))) e)
+    (sets-joined zs (i * 6 + 6) (sectionWords (nthRecord t i)) (tableWords (drop (suc i) t)) ∙ ap (λ (k : ℕ). sets (withSection zs i (nthRecord t i)) k (tableWords (drop (suc i) t))) e)
 
 from-done : (zs : List ℕ) (t : List Section) (i : ℕ) → length t ≤ i → withFrom zs i (drop i t) ≡ zs
 unfolding tableWords
@@ -47,7 +47,7 @@ from-done zs t i h = rw (drop-of-length-le t h)
 
 -- one more record is written; ok says whether any is
 pub more-written : (ok : Bool) (zs : List ℕ) (t : List Section) (i : ℕ) → i < pick ok (length t) 0
-    → pick ok (withFrom zs i (drop i t)) zs ≡ pick ok (withFrom (withSection zs i (record# t i)) (i + 1) (drop (i + 1) t)) (withSection zs i (record# t i))
+    → pick ok (withFrom zs i (drop i t)) zs ≡ pick ok (withFrom (withSection zs i (nthRecord t i)) (i + 1) (drop (i + 1) t)) (withSection zs i (nthRecord t i))
 more-written true zs t i h = from-more zs t i h
 more-written false zs t i h = absurd (not-suc-le-zero h)
 

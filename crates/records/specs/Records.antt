@@ -15,8 +15,8 @@ abbrev pub noRecord : Section
 noRecord = record { address = 0; size = 0; kind = 0; elf = 0; place = 0; length = 0 }
 
 -- record i
-abbrev pub record# : List Section → ℕ → Section
-record# t i = getD t i noRecord
+abbrev pub nthRecord : List Section → ℕ → Section
+nthRecord t i = getD t i noRecord
 
 -- a section has that elf number
 abbrev pub numbered : Section → ℕ → Bool
@@ -24,7 +24,7 @@ numbered s elf = eqb (s .elf) elf
 
 -- the first record that a test holds of, at a number
 abbrev pub firstRecord : (Section → ℕ → Bool) → List Section → ℕ → Found
-firstRecord p t v = first (λ (i : ℕ). p (record# t i) v) (length t)
+firstRecord p t v = first (λ (i : ℕ). p (nthRecord t i) v) (length t)
 
 -- the first record that holds an address
 abbrev pub recordAt : List Section → ℕ → Found

@@ -55,6 +55,9 @@ pub fn section_by_elf(t: &[Section], elf: u32) -> Found
     Found::Nothing
 }
 
+// The most sections that an image has: `maxSections`.
+const MAX_SECTIONS: usize = 64;
+
 // What writing records into the image's words answers: how many, or why none.
 pub enum Written {
     TooMany,
@@ -66,7 +69,7 @@ pub enum Written {
 fn count_of(n: usize, m: usize) -> usize
     ensures { λ r. ⌜ r ≡ writable n m ⌝ }
 {
-    if 64 < n {
+    if MAX_SECTIONS < n {
         return 0;
     }
     if m < n * 6 + 6 {
@@ -79,7 +82,7 @@ fn count_of(n: usize, m: usize) -> usize
 fn answer_of(n: usize, m: usize) -> Written
     ensures { λ r. ⌜ r ≡ written n m ⌝ }
 {
-    if 64 < n {
+    if MAX_SECTIONS < n {
         return Written::TooMany;
     }
     if m < n * 6 + 6 {

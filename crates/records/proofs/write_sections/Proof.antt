@@ -53,7 +53,7 @@ use Rattle.image.specs.declared.Section.{Section}
 use Rattle.image.proofs.Section as T
 use Rattle.image.proofs.Section.Laws as T′
 use Rattle.records.specs.declared.Written.{Written}
-use Rattle.records.specs.Records.{noRecord, record#}
+use Rattle.records.specs.Records.{noRecord, nthRecord}
 use Rattle.records.specs.Written.{fits, withSection, writable, withSections, written}
 use Rattle.records.proofs.Written as R
 use Rattle.records.proofs.Written.Laws as R′
@@ -229,7 +229,7 @@ module _ {M : Type 1} (𝓤 : URA M) (H : Heap 𝓤) (A : Atoms 𝓤) (W : Given
         again ! (Nearer ys ws) Here u (next ys ws u less (zs .0) e l) (nearer ys ws u less))))))))))
       where
         elem : Section
-        elem = record# ys (u .i)
+        elem = nthRecord ys (u .i)
 
         room : (u .i < n) × (u .i < 64) × (u .i * 6 + 12 ≤ length (u .zs))
         room = rooms ys ws u less

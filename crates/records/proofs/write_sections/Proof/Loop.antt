@@ -9,7 +9,7 @@ use lib.ListN.{length, drop}
 use lib.WfN.{Nat·lt-wfRel}
 use Rattle.words.specs.Choice.{pick}
 use Rattle.image.specs.declared.Section.{Section}
-use Rattle.records.specs.Records.{record#}
+use Rattle.records.specs.Records.{nthRecord}
 use Rattle.records.specs.Written.{fits, withSection, writable, withSections}
 use Rattle.records.proofs.WrittenLaws.{withFrom, more-written, all-written, has-room}
 
@@ -53,7 +53,7 @@ module _ (ys : List Section) (ws : List ℕ) where
     pub rooms : (u .i < n) × (u .i < 64) × (u .i * 6 + 12 ≤ length (u .zs))
     rooms = let r = has-room n (length ws) (u .i) less in (r .0, r .1, subst (λ (k : ℕ). u .i * 6 + 12 ≤ k) (sym (u .long)) (r .2))
 
-    abbrev pub next : (zs : List ℕ) → zs ≡ withSection (u .zs) (u .i) (record# ys (u .i)) → length zs ≡ length (u .zs) → Upto
+    abbrev pub next : (zs : List ℕ) → zs ≡ withSection (u .zs) (u .i) (nthRecord ys (u .i)) → length zs ≡ length (u .zs) → Upto
     next zs e l = record {
       i = u .i + 1;
       zs = zs;
