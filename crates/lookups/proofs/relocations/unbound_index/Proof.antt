@@ -1,0 +1,30 @@
+use native.Mathlib.Omega.{arith}
+use borrow.Author.Needs.{needs}
+use Rattle.lookups.proofs.relocations.unbound_index.Statement.{statement}
+use Rattle.lookups.proofs.relocations.unbound_index.Tie as tie
+use Rattle.lookups.proofs.relocations.unbound_index.Reads as reads
+use Rattle.lookups.proofs.relocations.unbound_index.Lts as lts
+use Rattle.image.proofs.table.unbound_count.Reads as unbound-count-reads
+use Rattle.image.proofs.table.unbounds_from.Reads as unbounds-from-reads
+use Rattle.lookups.proofs.relocations.first_unbound.Reads as first-unbound-reads
+
+-- src/relocations.rt:77:23
+unbounds-from-requires : tie.Need-unbounds-from-requires
+unbounds-from-requires c κs = ?
+
+-- src/relocations.rt:77:42
+unbound-count-requires : tie.Need-unbound-count-requires
+unbound-count-requires c κs = ?
+
+-- src/relocations.rt:77:5
+first-unbound-requires : tie.Need-first-unbound-requires
+first-unbound-requires c κs = ?
+
+-- src/relocations.rt:73:1
+returns : tie.Need-returns
+returns c = ?
+
+pub unbound-index-spec : {M : Type 1} → statement M
+unbound-index-spec =
+    tie.close
+    (tie.spec unbounds-from-requires unbound-count-requires first-unbound-requires returns)
