@@ -1,4 +1,5 @@
 -- Laws of the lookups: what sound tables give, places in ascending order, and document 01's corners.
 pub mod SoundTables
 pub mod Within
+pub mod Stride
 pub mod Halves

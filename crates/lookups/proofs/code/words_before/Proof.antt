@@ -72,7 +72,7 @@ loop-less c = search needs
 -- src/code.rt:59:5
 loop-again : tie.Need-loop-again Inv-loop μ-loop
 unfolding wordsBefore
-loop-again c = 
+loop-again c =
     let h = c .before .before .before .before in
     let a = h .before .before .args in
     (omega arith, (rw (add-one (h .loop .i), ← h .loop .inv .1, ← c .words-of .ensures .0)), omega (arith, c .words-of .ensures .1))

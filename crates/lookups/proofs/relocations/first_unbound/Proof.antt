@@ -1,53 +1,46 @@
+use Rattle.lookups.specs.Relocations.{unboundHere}
+use Rattle.search.proofs.FirstLaws.{first-start, first-end, first-hit, first-miss}
+use Rattle.search.specs.First.{first, firstFrom}
+use Prim.Native.Nat.{_-_, _≤_}
+use mathlib.Core.Path.{_≡_, sym, _∙_}
 use native.Mathlib.Omega.{arith}
 use borrow.Author.Needs.{needs}
 use Rattle.lookups.proofs.relocations.first_unbound.Statement.{statement}
 use Rattle.lookups.proofs.relocations.first_unbound.Tie as tie
 use Rattle.lookups.proofs.relocations.first_unbound.Reads as reads
 use Rattle.lookups.proofs.relocations.first_unbound.Lts as lts
+use Rattle.lookups.proofs.relocations.is_entry.Reads as is-entry-reads
 
 abbrev Inv-loop : tie.InvT-loop
-Inv-loop im from n elf a j₀ j = ?
+Inv-loop im from n elf a j₀ j = (j ≤ n) × (first (unboundHere im elf a) n ≡ firstFrom (unboundHere im elf a) (n - j) j)
 
 abbrev μ-loop : tie.MeasureT-loop
-μ-loop im from n elf a j₀ j = ?
+μ-loop im from n elf a j₀ j = n - j
 
 -- src/relocations.rt:85:5
 loop-holds : tie.Need-loop-holds Inv-loop μ-loop
-loop-holds c = search needs
+loop-holds c = (omega arith, first-start _ _)
 
--- src/relocations.rt:86:24
-mul-k : tie.Need-mul-k Inv-loop μ-loop
-mul-k c = search needs
+-- src/relocations.rt:86:32
+mul-is-entry : tie.Need-mul-is-entry Inv-loop μ-loop
+mul-is-entry c = search needs
 
--- src/relocations.rt:86:17
-add-k : tie.Need-add-k Inv-loop μ-loop
-add-k c = search needs
+-- src/relocations.rt:86:25
+add-is-entry : tie.Need-add-is-entry Inv-loop μ-loop
+add-is-entry c = search needs
 
--- src/relocations.rt:87:15
-add-if1 : tie.Need-add-if1 Inv-loop μ-loop
-add-if1 c = search needs
+-- src/relocations.rt:86:12
+is-entry-requires : tie.Need-is-entry-requires Inv-loop μ-loop
+is-entry-requires c κs = search needs
 
--- src/relocations.rt:87:12
-mul-if1 : tie.Need-mul-if1 Inv-loop μ-loop
-mul-if1 c = search needs
-
--- src/relocations.rt:87:12
-shared-slice-read-if1 : tie.Need-shared-slice-read-if1 Inv-loop μ-loop
-shared-slice-read-if1 c = search needs
-
--- src/relocations.rt:88:16
-mul-if2 : tie.Need-mul-if2 Inv-loop μ-loop
-mul-if2 c = search needs
-
--- src/relocations.rt:88:16
-shared-slice-read-if2 : tie.Need-shared-slice-read-if2 Inv-loop μ-loop
-shared-slice-read-if2 c = search needs
-
--- src/relocations.rt:89:17
+-- src/relocations.rt:87:13
 returns : tie.Need-returns Inv-loop μ-loop
-returns c = search needs
+returns c = 
+    let l = c .before .before .before .loop in
+    let a = c .before .before .before .before .before .args in
+    sym (l .inv .1 ∙ first-hit (unboundHere (a .im .now) (a .elf) (a .a)) (a .n) (l .j) (omega arith) (rw (← c .before .before .before .before .before .pre .0) (sym (c .before .is-entry .ensures) ∙ c .if1 .taken)))
 
--- src/relocations.rt:92:9
+-- src/relocations.rt:89:9
 add-j : tie.Need-add-j Inv-loop μ-loop
 add-j c = search needs
 
@@ -57,11 +50,17 @@ loop-less c = search needs
 
 -- src/relocations.rt:85:5
 loop-again : tie.Need-loop-again Inv-loop μ-loop
-loop-again c = search needs
+loop-again c = 
+    let l = c .before .before .before .loop in
+    let a = c .before .before .before .before .before .args in
+    (omega arith, l .inv .1 ∙ first-miss (unboundHere (a .im .now) (a .elf) (a .a)) (a .n) (l .j) (omega arith) (rw (← c .before .before .before .before .before .pre .0) (sym (c .before .is-entry .ensures) ∙ c .if1 .left)))
 
 -- src/relocations.rt:80:1
 returns-2 : tie.Need-returns-2 Inv-loop μ-loop
-returns-2 c = search needs
+returns-2 c = 
+    let l = c .before .loop in
+    let a = c .before .before .before .args in
+    sym (l .inv .1 ∙ first-end (unboundHere (a .im .now) (a .elf) (a .a)) (a .n) (l .j) (omega arith))
 
 pub first-unbound-spec : {M : Type 1} → statement M
 first-unbound-spec =
@@ -70,13 +69,9 @@ first-unbound-spec =
     Inv-loop
     μ-loop
     loop-holds
-    mul-k
-    add-k
-    add-if1
-    mul-if1
-    shared-slice-read-if1
-    mul-if2
-    shared-slice-read-if2
+    mul-is-entry
+    add-is-entry
+    is-entry-requires
     returns
     add-j
     loop-less

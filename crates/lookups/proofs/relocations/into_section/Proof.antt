@@ -1,3 +1,6 @@
+use Rattle.image.specs.declared.Section.{Section}
+use Prim.Native.Nat.{_+_, _*_, _^_}
+use mathlib.Core.Path.{ap}
 use Rattle.image.specs.Layout.{sectionAt}
 use Prim.Native.Nat.{_+_, _^_}
 use borrow.Author.Tests.{lt-ltb, le-ltb}
@@ -19,7 +22,11 @@ sub-if1 c = search needs
 
 -- src/relocations.rt:171:9
 returns : tie.Need-returns
-returns c = let a = c .before .before .before .args in simp (le-ltb (sectionAt (a .im .now) (a .i) .address + a .addend) (2 ^ 32) (omega arith))
+returns c = 
+    let a = c .before .before .before .args in
+    let e = ap (λ (s : Section). s .address) (c .before .section .ensures) in
+    let f = c .before .before .shared-slice-known .given (a .i * 6 + 6) in
+    rw (le-ltb (sectionAt (a .im .now) (a .i) .address + a .addend) (2 ^ 32) (omega arith))
 
 -- src/relocations.rt:174:18
 cast-t6 : tie.Need-cast-t6
@@ -31,7 +38,11 @@ add-t8 c = search needs
 
 -- src/relocations.rt:165:1
 returns-2 : tie.Need-returns-2
-returns-2 c = let a = c .before .before .before .args in simp (lt-ltb (sectionAt (a .im .now) (a .i) .address + a .addend) (2 ^ 32) (omega arith))
+returns-2 c = 
+    let a = c .before .before .before .args in
+    let e = ap (λ (s : Section). s .address) (c .before .section .ensures) in
+    let f = c .before .before .shared-slice-known .given (a .i * 6 + 6) in
+    rw (c .before .section .ensures, lt-ltb (sectionAt (a .im .now) (a .i) .address + a .addend) (2 ^ 32) (omega arith))
 
 pub into-section-spec : {M : Type 1} → statement M
 into-section-spec = tie.close (tie.spec section-requires sub-if1 returns cast-t6 add-t8 returns-2)

@@ -59,7 +59,7 @@ is-within-requires c κs = search needs
 
 -- src/sections.rt:29:13
 returns : tie.Need-returns Inv-loop μ-loop
-returns c = 
+returns c =
     let h = c .before .before .before .before .before in
     let a = h .before .before .args in
     sym (h .loop .inv .1 ∙ first-hit (held (a .im .now) (a .a)) (a .n) (h .loop .i) (omega arith) (sym (c .before .is-within .ensures) ∙ c .if1 .taken))
@@ -74,14 +74,14 @@ loop-less c = search needs
 
 -- src/sections.rt:27:5
 loop-again : tie.Need-loop-again Inv-loop μ-loop
-loop-again c = 
+loop-again c =
     let h = c .before .before .before .before .before in
     let a = h .before .before .args in
     (omega arith, h .loop .inv .1 ∙ first-miss (held (a .im .now) (a .a)) (a .n) (h .loop .i) (omega arith) (sym (c .before .is-within .ensures) ∙ c .if1 .left))
 
 -- src/sections.rt:22:1
 returns-2 : tie.Need-returns-2 Inv-loop μ-loop
-returns-2 c = 
+returns-2 c =
     let h = c .before in
     let a = h .before .before .args in
     sym (h .loop .inv .1 ∙ first-end (held (a .im .now) (a .a)) (a .n) (h .loop .i) (omega arith))
