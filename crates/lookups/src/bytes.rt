@@ -2,8 +2,8 @@
 // Requires sound tables, and data inside the buffer.
 ghost use mathlib.Core.Path.{_≡_};
 ghost use mathlib.Core.Bool.{true};
-ghost use Prim.Native.Nat.{_+_};
-ghost use lib.ListN.{length};
+ghost use Prim.Native.Nat.{_+_, _-_, _≤_, _<_};
+ghost use lib.ListN.{length, take, drop};
 ghost use denote.Ref.{ptr};
 ghost use Rattle.image.specs.Rules.{tablesSound, dataInside};
 ghost use Rattle.lookups.specs.Bytes.{hasData, dataFrom, dataOffset, wordAt};
@@ -22,9 +22,7 @@ pub fn data_from<'a>(im: &[u32], bytes: &'a [u8], at: SectionAddress) -> &'a [u8
 {
     if has_data(im, at) {
         let s = section(im, at.section as usize);
-        let from = s.place as usize + (at.address - s.address) as usize;
-        let end = s.place as usize + s.size as usize;
-        &bytes[from..end]
+        bytes_from(bytes, s.address, s.size, s.place, at.address)
     } else {
         &bytes[0..0]
     }
@@ -56,4 +54,15 @@ fn has_data(im: &[u32], at: SectionAddress) -> bool
         return false;
     }
     is_within(s.address, s.size, at.address)
+}
+
+// The bytes of a section of that address, size and place in the buffer, from an address in it to its end.
+fn bytes_from(bytes: &[u8], address: u32, size: u32, place: u32, a: u32) -> &[u8]
+    requires { ⌜ (address ≤ a) × (a < address + size) × (place + size ≤ length (now bytes)) ⌝ }
+    ensures { λ r. ⌜ now r ≡ take (address + size - a) (drop (place + (a - address)) (now (bytes .entry))) ⌝ }
+    ensures own { λ r. ⌜ (ptr r .0 ≡ ptr (bytes .entry) .0) × (ptr r .1 ≡ place + (a - address) + ptr (bytes .entry) .1) ⌝ }
+{
+    let from = place as usize + (a - address) as usize;
+    let end = place as usize + size as usize;
+    &bytes[from..end]
 }
