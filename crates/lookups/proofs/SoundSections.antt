@@ -64,14 +64,15 @@ in-section ws p s k e =
     let high = ltb (p .address) (endOf (sectionAt ws (p .section))) in
     let first-two = and-left (there && k) (low && high) e in
     let held = and-right (there && k) (low && high) e in
-    let exists = ltb-true _ _ (and-left there k first-two) in
-    (record {
-      exists = exists;
-      from = leb-true _ _ (and-left low high held);
-      upto = ltb-true _ _ (and-right low high held);
-      sound = section-of ws (p .section) s exists;
-    },
-        and-right there k first-two)
+    let exists = ltb-true _ _ (and-left there k first-two) in (
+      record {
+        exists = exists;
+        from = leb-true _ _ (and-left low high held);
+        upto = ltb-true _ _ (and-right low high held);
+        sound = section-of ws (p .section) s exists;
+      },
+      and-right there k first-two,
+    )
 
 -- a place that has data lies in its section, whose bytes are all in the buffer
 pub record HasData (ws : List ℕ) (n : ℕ) (p : SectionAddress) : Type 0 where

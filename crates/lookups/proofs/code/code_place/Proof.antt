@@ -1,3 +1,5 @@
+use borrow.Author.Tests.{eq-eqb, ne-eqb}
+use mathlib.Core.Path.{sym, _∙_}
 use native.Mathlib.Omega.{arith}
 use borrow.Author.Needs.{needs}
 use Rattle.lookups.proofs.code.code_place.Statement.{statement}
@@ -12,15 +14,15 @@ is-in-code-requires c κs = search needs
 
 -- src/code.rt:24:13
 returns : tie.Need-returns
-returns c = ?
+returns c = rw (sym (c .before .before .before .is-in-code .ensures) ∙ c .before .before .if1 .taken, eq-eqb _ _ (c .if2 .taken))
 
 -- src/code.rt:26:9
 returns-2 : tie.Need-returns-2
-returns-2 c = ?
+returns-2 c = rw (sym (c .before .before .before .is-in-code .ensures) ∙ c .before .before .if1 .taken, ne-eqb _ _ (c .if2 .left))
 
 -- src/code.rt:18:1
 returns-3 : tie.Need-returns-3
-returns-3 c = ?
+returns-3 c = rw (sym (c .before .is-in-code .ensures) ∙ c .if1 .left)
 
 pub code-place-spec : {M : Type 1} → statement M
 code-place-spec = tie.close (tie.spec is-in-code-requires returns returns-2 returns-3)

@@ -35,7 +35,7 @@ is-entry-requires c κs = search needs
 
 -- src/relocations.rt:87:13
 returns : tie.Need-returns Inv-loop μ-loop
-returns c = 
+returns c =
     let l = c .before .before .before .loop in
     let a = c .before .before .before .before .before .args in
     sym (l .inv .1 ∙ first-hit (unboundHere (a .im .now) (a .elf) (a .a)) (a .n) (l .j) (omega arith) (rw (← c .before .before .before .before .before .pre .0) (sym (c .before .is-entry .ensures) ∙ c .if1 .taken)))
@@ -50,14 +50,14 @@ loop-less c = search needs
 
 -- src/relocations.rt:85:5
 loop-again : tie.Need-loop-again Inv-loop μ-loop
-loop-again c = 
+loop-again c =
     let l = c .before .before .before .loop in
     let a = c .before .before .before .before .before .args in
     (omega arith, l .inv .1 ∙ first-miss (unboundHere (a .im .now) (a .elf) (a .a)) (a .n) (l .j) (omega arith) (rw (← c .before .before .before .before .before .pre .0) (sym (c .before .is-entry .ensures) ∙ c .if1 .left)))
 
 -- src/relocations.rt:80:1
 returns-2 : tie.Need-returns-2 Inv-loop μ-loop
-returns-2 c = 
+returns-2 c =
     let l = c .before .loop in
     let a = c .before .before .before .args in
     sym (l .inv .1 ∙ first-end (unboundHere (a .im .now) (a .elf) (a .a)) (a .n) (l .j) (omega arith))

@@ -22,7 +22,7 @@ sub-if1 c = search needs
 
 -- src/relocations.rt:171:9
 returns : tie.Need-returns
-returns c = 
+returns c =
     let a = c .before .before .before .args in
     let e = ap (λ (s : Section). s .address) (c .before .section .ensures) in
     let f = c .before .before .shared-slice-known .given (a .i * 6 + 6) in
@@ -38,7 +38,7 @@ add-t8 c = search needs
 
 -- src/relocations.rt:165:1
 returns-2 : tie.Need-returns-2
-returns-2 c = 
+returns-2 c =
     let a = c .before .before .before .args in
     let e = ap (λ (s : Section). s .address) (c .before .section .ensures) in
     let f = c .before .before .shared-slice-known .given (a .i * 6 + 6) in

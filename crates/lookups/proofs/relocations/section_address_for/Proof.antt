@@ -1,3 +1,5 @@
+use Rattle.lookups.specs.Relocations.{sectionAddressFor}
+use mathlib.Core.Path.{sym, _∙_}
 use native.Mathlib.Omega.{arith}
 use borrow.Author.Needs.{needs}
 use Rattle.lookups.proofs.relocations.section_address_for.Statement.{statement}
@@ -25,11 +27,13 @@ bare-address-requires c κs = search needs
 
 -- src/relocations.rt:61:1
 returns : tie.Need-returns
-returns c = ?
+unfolding sectionAddressFor
+returns c = rw (sym (c .before .before .before .target-at .ensures) ∙ c .before .t .given .1)
 
 -- src/relocations.rt:61:1
 returns-2 : tie.Need-returns-2
-returns-2 c = ?
+unfolding sectionAddressFor
+returns-2 c = rw (c .bare-address .ensures, sym (c .before .before .before .target-at .ensures) ∙ c .before .enum-told .given .1)
 
 pub section-address-for-spec : {M : Type 1} → statement M
 section-address-for-spec =

@@ -1,3 +1,4 @@
+use mathlib.Core.Path.{sym, _∙_}
 use native.Mathlib.Omega.{arith}
 use borrow.Author.Needs.{needs}
 use Rattle.lookups.proofs.relocations.target_at.Statement.{statement}
@@ -24,15 +25,15 @@ enum-told-2 c = search needs
 
 -- src/relocations.rt:48:1
 returns : tie.Need-returns
-returns c = ?
+returns c = rw (sym (c .before .before .before .relocation-target-for .ensures) ∙ c .before .t .given .1)
 
 -- src/relocations.rt:48:1
 returns-2 : tie.Need-returns-2
-returns-2 c = ?
+returns-2 c = rw (sym (c .before .before .relocation-target-for .ensures) ∙ c .enum-told .given .1)
 
 -- src/relocations.rt:48:1
 returns-3 : tie.Need-returns-3
-returns-3 c = ?
+returns-3 c = rw (sym (c .before .before .relocation-target-for .ensures) ∙ c .enum-told2 .given .1)
 
 pub target-at-spec : {M : Type 1} → statement M
 target-at-spec =

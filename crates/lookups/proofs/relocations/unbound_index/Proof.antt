@@ -1,3 +1,7 @@
+use Rattle.lookups.specs.Relocations.{unboundHere}
+use Rattle.search.specs.First.{first}
+use mathlib.Core.Path.{ap, _∙_}
+use Rattle.lookups.proofs.SoundTables.{sound-tables}
 use native.Mathlib.Omega.{arith}
 use borrow.Author.Needs.{needs}
 use Rattle.lookups.proofs.relocations.unbound_index.Statement.{statement}
@@ -10,19 +14,19 @@ use Rattle.lookups.proofs.relocations.first_unbound.Reads as first-unbo
 
 -- src/relocations.rt:77:23
 unbounds-from-requires : tie.Need-unbounds-from-requires
-unbounds-from-requires c κs = ?
+unbounds-from-requires c κs = let s = sound-tables (c .before .args .im .now) (c .before .pre) in omega (arith)
 
 -- src/relocations.rt:77:42
 unbound-count-requires : tie.Need-unbound-count-requires
-unbound-count-requires c κs = ?
+unbound-count-requires c κs = let s = sound-tables (c .before .before .args .im .now) (c .before .before .pre) in omega (arith)
 
 -- src/relocations.rt:77:5
 first-unbound-requires : tie.Need-first-unbound-requires
-first-unbound-requires c κs = ?
+first-unbound-requires c κs = let s = sound-tables (c .before .before .before .args .im .now) (c .before .before .before .pre) in (c .before .unbounds-from .ensures, omega (arith, c .before .unbounds-from .ensures, c .unbound-count .ensures))
 
 -- src/relocations.rt:73:1
 returns : tie.Need-returns
-returns c = ?
+returns c = c .first-unbound .ensures ∙ ap (first (unboundHere (c .before .before .before .before .args .im .now) (c .before .before .before .before .args .elf) (c .before .before .before .before .args .a))) (c .before .unbound-count .ensures)
 
 pub unbound-index-spec : {M : Type 1} → statement M
 unbound-index-spec =

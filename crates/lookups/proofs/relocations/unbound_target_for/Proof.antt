@@ -1,3 +1,8 @@
+use Rattle.lookups.specs.Relocations.{unboundHere}
+use Rattle.image.specs.Layout.{unbounds}
+use Rattle.search.proofs.FirstMatch.{first-below}
+use mathlib.Core.Path.{sym, _∙_}
+use Rattle.lookups.proofs.SoundTables.{sound-tables}
 use native.Mathlib.Omega.{arith}
 use borrow.Author.Needs.{needs}
 use Rattle.lookups.proofs.relocations.unbound_target_for.Statement.{statement}
@@ -22,11 +27,15 @@ enum-told c = search needs
 
 -- src/relocations.rt:142:9
 returns : tie.Need-returns
-returns c = ?
+returns c = rw (sym (c .before .before .unbound-index .ensures) ∙ c .enum-told .given .1)
 
 -- src/relocations.rt:144:24
 unbound-requires : tie.Need-unbound-requires
-unbound-requires c κs = ?
+unbound-requires c κs =
+    let a = c .before .before .before .before .before .args in
+    let s = sound-tables (a .im .now) (c .before .before .before .before .before .pre) in
+    let b = first-below (unboundHere (a .im .now) (a .elf) (a .a)) (unbounds (a .im .now)) (c .before .j .given .0 .0) (sym (c .before .before .before .unbound-index .ensures) ∙ c .before .j .given .1) in
+    omega arith
 
 -- src/relocations.rt:144:5
 unbound-target-requires : tie.Need-unbound-target-requires
@@ -34,7 +43,7 @@ unbound-target-requires c κs = search needs
 
 -- src/relocations.rt:137:1
 returns-2 : tie.Need-returns-2
-returns-2 c = ?
+returns-2 c = rw (c .unbound-target .ensures, c .before .unbound .ensures, sym (c .before .before .before .before .before .unbound-index .ensures) ∙ c .before .before .before .j .given .1)
 
 pub unbound-target-for-spec : {M : Type 1} → statement M
 unbound-target-for-spec =

@@ -37,7 +37,7 @@ add-mid c = search needs
 
 -- src/sorted.rt:59:30
 mul-key-at : tie.Need-mul-key-at Inv-loop μ-loop
-mul-key-at c = 
+mul-key-at c =
     let a = c .before .before .before .before .args in
     let l = c .before .loop in
     let h = l .inv in
@@ -46,7 +46,7 @@ mul-key-at c =
 
 -- src/sorted.rt:59:23
 add-key-at : tie.Need-add-key-at Inv-loop μ-loop
-add-key-at c = 
+add-key-at c =
     let a = c .before .before .before .before .args in
     let l = c .before .loop in
     let h = l .inv in
@@ -55,7 +55,7 @@ add-key-at c =
 
 -- src/sorted.rt:59:12
 key-at-requires : tie.Need-key-at-requires Inv-loop μ-loop
-key-at-requires c κs = 
+key-at-requires c κs =
     let a = c .before .before .before .before .args in
     let l = c .before .loop in
     let h = l .inv in
@@ -72,7 +72,7 @@ loop-less c = search needs
 
 -- src/sorted.rt:57:5
 loop-again : tie.Need-loop-again Inv-loop μ-loop
-loop-again c = 
+loop-again c =
     let a = c .before .before .before .before .before .before .args in
     let fits : (j : ℕ) → placesAt (a .im .now) (a .from) (a .stride) j .address < 2 ^ 32 = λ j. c .before .before .before .before .before .shared-slice-known .given (a .from + j * a .stride + 1) .fits in
     let asc = keys-ascend (placesAt (a .im .now) (a .from) (a .stride)) (a .n) fits (c .before .before .before .before .before .before .pre .1) in
@@ -85,7 +85,7 @@ loop-less-2 c = search needs
 
 -- src/sorted.rt:57:5
 loop-again-2 : tie.Need-loop-again-2 Inv-loop μ-loop
-loop-again-2 c = 
+loop-again-2 c =
     let a = c .before .before .before .before .before .before .args in
     let fits : (j : ℕ) → placesAt (a .im .now) (a .from) (a .stride) j .address < 2 ^ 32 = λ j. c .before .before .before .before .before .shared-slice-known .given (a .from + j * a .stride + 1) .fits in
     let asc = keys-ascend (placesAt (a .im .now) (a .from) (a .stride)) (a .n) fits (c .before .before .before .before .before .before .pre .1) in
@@ -94,7 +94,7 @@ loop-again-2 c =
 
 -- src/sorted.rt:66:9
 returns : tie.Need-returns Inv-loop μ-loop
-returns c = 
+returns c =
     let a = c .before .before .before .before .before .args in
     let fits : (j : ℕ) → placesAt (a .im .now) (a .from) (a .stride) j .address < 2 ^ 32 = λ j. c .before .before .before .before .shared-slice-known .given (a .from + j * a .stride + 1) .fits in
     let asc = keys-ascend (placesAt (a .im .now) (a .from) (a .stride)) (a .n) fits (c .before .before .before .before .before .pre .1) in
@@ -104,7 +104,7 @@ returns c =
 
 -- src/sorted.rt:68:26
 mul-key-at-2 : tie.Need-mul-key-at-2 Inv-loop μ-loop
-mul-key-at-2 c = 
+mul-key-at-2 c =
     let a = c .before .before .before .before .before .args in
     let l = c .before .before .loop in
     let h = l .inv in
@@ -113,7 +113,7 @@ mul-key-at-2 c =
 
 -- src/sorted.rt:68:19
 add-key-at-2 : tie.Need-add-key-at-2 Inv-loop μ-loop
-add-key-at-2 c = 
+add-key-at-2 c =
     let a = c .before .before .before .before .before .args in
     let l = c .before .before .loop in
     let h = l .inv in
@@ -122,7 +122,7 @@ add-key-at-2 c =
 
 -- src/sorted.rt:68:8
 key-at-requires-2 : tie.Need-key-at-requires-2 Inv-loop μ-loop
-key-at-requires-2 c κs = 
+key-at-requires-2 c κs =
     let a = c .before .before .before .before .before .args in
     let l = c .before .before .loop in
     let h = l .inv in
@@ -131,7 +131,7 @@ key-at-requires-2 c κs =
 
 -- src/sorted.rt:49:1
 returns-2 : tie.Need-returns-2 Inv-loop μ-loop
-returns-2 c = 
+returns-2 c =
     let a = c .before .before .before .before .before .before .before .args in
     let fits : (j : ℕ) → placesAt (a .im .now) (a .from) (a .stride) j .address < 2 ^ 32 = λ j. c .before .before .before .before .before .before .shared-slice-known .given (a .from + j * a .stride + 1) .fits in
     let asc = keys-ascend (placesAt (a .im .now) (a .from) (a .stride)) (a .n) fits (c .before .before .before .before .before .before .before .pre .1) in
@@ -141,7 +141,7 @@ returns-2 c =
 
 -- src/sorted.rt:49:1
 returns-3 : tie.Need-returns-3 Inv-loop μ-loop
-returns-3 c = 
+returns-3 c =
     let a = c .before .before .before .before .before .before .before .args in
     let fits : (j : ℕ) → placesAt (a .im .now) (a .from) (a .stride) j .address < 2 ^ 32 = λ j. c .before .before .before .before .before .before .shared-slice-known .given (a .from + j * a .stride + 1) .fits in
     let asc = keys-ascend (placesAt (a .im .now) (a .from) (a .stride)) (a .n) fits (c .before .before .before .before .before .before .before .pre .1) in
