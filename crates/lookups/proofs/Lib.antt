@@ -5,3 +5,4 @@ pub mod WordNumbers
 pub mod Within
 pub mod Stride
 pub mod Halves
+pub mod Corners
