@@ -1,2 +1,8 @@
 -- Laws of the lookups: what sound tables give, places in ascending order, and document 01's corners.
 pub mod SoundTables
+pub mod SoundSections
+pub mod WordNumbers
+pub mod Within
+pub mod Stride
+pub mod Halves
+pub mod Corners

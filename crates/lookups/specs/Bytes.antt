@@ -1,21 +1,18 @@
 -- A section's bytes in the lent buffer.
 -- Assumes nothing.
-use Prim.Native.Nat.{ℕ, _+_, _-_, _*_}
+use Prim.Native.Nat.{ℕ, _+_, _-_}
 use mathlib.Core.Bool.{Bool, _&&_, not}
 use mathlib.Core.List.{List, []}
-use lib.ListN.{getD, take, drop, length}
+use lib.ListN.{take, drop, length}
 use lib.Dec.{ltb, leb, eqb}
 use Rattle.words.specs.Choice.{pick}
+use Rattle.words.specs.Bytes.{be32}
 use Rattle.places.specs.declared.SectionAddress.{SectionAddress}
 use Rattle.image.specs.Numbers.{bssKind}
 use Rattle.image.specs.Layout.{sections, sectionAt}
 use Rattle.image.specs.Rules.{holds, endOf}
 use Rattle.lookups.specs.declared.MaybeWord.{MaybeWord}
 use Rattle.lookups.specs.declared.MaybeWord.the-variants.{Missing, Read}
-
--- a big-endian word
-abbrev pub be32 : List ℕ → ℕ → ℕ
-be32 bs k = getD bs k 0 * 16777216 + getD bs (k + 1) 0 * 65536 + getD bs (k + 2) 0 * 256 + getD bs (k + 3) 0
 
 -- where the byte of section i at an address stands in the buffer
 abbrev pub offsetIn : List ℕ → ℕ → ℕ → ℕ

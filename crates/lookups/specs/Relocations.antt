@@ -15,7 +15,7 @@ use Rattle.search.specs.declared.Found.{Found}
 use Rattle.image.specs.declared.Bound.{Bound}
 use Rattle.image.specs.declared.Unbound.{Unbound}
 use Rattle.image.specs.Numbers.{executableKind, absoluteKind, noSection}
-use Rattle.image.specs.Layout.{imageKind, moduleNumber, sections, bounds, unbounds, sectionAt, boundAt, unboundAt}
+use Rattle.image.specs.Layout.{word, imageKind, moduleNumber, sections, bounds, unbounds, sectionAt, boundAt, unboundAt}
 use Rattle.image.specs.Rules.{holds, elfIndex}
 use Rattle.lookups.specs.declared.Wanted.{Wanted}
 use Rattle.lookups.specs.declared.Wanted.the-variants as wanted
@@ -42,6 +42,10 @@ boundTarget k r =
     pick (differs k (r .kind)) Error
     (pick (eqb (r .«symbol_section») noSection) (To External)
     (To (Address (record { section = r .«symbol_section»; address = sum (r .«symbol_address») (r .addend) }))))
+
+-- the unbound entry that begins at word k is for a section's elf number and an address
+abbrev pub entryIs : List ℕ → ℕ → ℕ → ℕ → Bool
+entryIs ws k elf a = eqb (word ws k) elf && eqb (word ws (k + 1)) a
 
 -- the first unbound entry for a section's elf number and an address
 abbrev pub unboundHere : List ℕ → ℕ → ℕ → ℕ → Bool

@@ -16,8 +16,11 @@ abbrev pub within : ℕ → ℕ → ℕ → Bool
 within address size a = leb address a && ltb a (address + size)
 
 -- the first section that holds an address
+abbrev pub held : List ℕ → ℕ → ℕ → Bool
+held ws a i = holds (sectionAt ws i) a
+
 abbrev pub atAddress : List ℕ → ℕ → Found
-atAddress ws a = first (λ (i : ℕ). holds (sectionAt ws i) a) (sections ws)
+atAddress ws a = first (held ws a) (sections ws)
 
 -- the object symbol at a place
 abbrev pub symbolHere : List ℕ → SectionAddress → ℕ → Bool

@@ -2,16 +2,17 @@
 // Requires sound tables, and data inside the buffer.
 ghost use mathlib.Core.Path.{_≡_};
 ghost use mathlib.Core.Bool.{true};
-ghost use Prim.Native.Nat.{_+_, _*_, _≤_, _<_};
-ghost use lib.ListN.{length};
+ghost use Prim.Native.Nat.{_+_, _-_, _≤_, _<_};
+ghost use lib.ListN.{length, take, drop};
 ghost use denote.Ref.{ptr};
 ghost use Rattle.image.specs.Rules.{tablesSound, dataInside};
-ghost use Rattle.lookups.specs.Bytes.{be32, dataFrom, dataOffset, wordAt};
+ghost use Rattle.lookups.specs.Bytes.{hasData, dataFrom, dataOffset, wordAt};
 use crate::MaybeWord;
 use crate::sections::is_within;
 use image::table::section;
 use image::table::section_count;
 use places::SectionAddress;
+use words::bytes::four;
 
 // The caller's own bytes from a place to its section's end; none for Bss or an address outside.
 pub fn data_from<'a>(im: &[u32], bytes: &'a [u8], at: SectionAddress) -> &'a [u8]
@@ -19,18 +20,9 @@ pub fn data_from<'a>(im: &[u32], bytes: &'a [u8], at: SectionAddress) -> &'a [u8
     ensures { λ r. ⌜ now r ≡ dataFrom (now (im .entry)) (now (bytes .entry)) at ⌝ }
     ensures own { λ r. ⌜ (ptr r .0 ≡ ptr (bytes .entry) .0) × (ptr r .1 ≡ dataOffset (now (im .entry)) at + ptr (bytes .entry) .1) ⌝ }
 {
-    let i = at.section as usize;
-    if section_count(im) <= i {
-        return &bytes[0..0];
-    }
-    let s = section(im, i);
-    if s.kind == 3 {
-        return &bytes[0..0];
-    }
-    if is_within(s.address, s.size, at.address) {
-        let from = s.place as usize + (at.address - s.address) as usize;
-        let end = s.place as usize + s.size as usize;
-        &bytes[from..end]
+    if has_data(im, at) {
+        let s = section(im, at.section as usize);
+        bytes_from(bytes, s.address, s.size, s.place, at.address)
     } else {
         &bytes[0..0]
     }
@@ -45,22 +37,32 @@ pub fn read_u32(im: &[u32], bytes: &[u8], at: SectionAddress) -> MaybeWord
     if d.len() < 4 {
         return MaybeWord::Missing;
     }
-    MaybeWord::Read(word_at_offset(d, 0))
+    MaybeWord::Read(four(d, 0))
 }
 
-// The big-endian word at an offset of a buffer.
-pub fn word_at_offset(bytes: &[u8], k: usize) -> u32
-    requires { ⌜ k + 4 ≤ length (now bytes) ⌝ }
-    ensures { λ r. ⌜ r ≡ be32 (now (bytes .entry)) k ⌝ }
+// Whether a place has data: its section exists, is no Bss and holds the address.
+fn has_data(im: &[u32], at: SectionAddress) -> bool
+    requires { ⌜ tablesSound (now im) ≡ true ⌝ }
+    ensures { λ r. ⌜ r ≡ hasData (now (im .entry)) at ⌝ }
 {
-    wide(bytes[k]) * 0x100_0000
-        + wide(bytes[k + 1]) * 0x1_0000
-        + wide(bytes[k + 2]) * 0x100
-        + wide(bytes[k + 3])
+    let i = at.section as usize;
+    if section_count(im) <= i {
+        return false;
+    }
+    let s = section(im, i);
+    if s.kind == 3 {
+        return false;
+    }
+    is_within(s.address, s.size, at.address)
 }
 
-fn wide(b: u8) -> u32
-    ensures { λ r. ⌜ (r ≡ b) × (r < 256) ⌝ }
+// The bytes of a section of that address, size and place in the buffer, from an address in it to its end.
+fn bytes_from(bytes: &[u8], address: u32, size: u32, place: u32, a: u32) -> &[u8]
+    requires { ⌜ (address ≤ a) × (a < address + size) × (place + size ≤ length (now bytes)) ⌝ }
+    ensures { λ r. ⌜ now r ≡ take (address + size - a) (drop (place + (a - address)) (now (bytes .entry))) ⌝ }
+    ensures own { λ r. ⌜ (ptr r .0 ≡ ptr (bytes .entry) .0) × (ptr r .1 ≡ place + (a - address) + ptr (bytes .entry) .1) ⌝ }
 {
-    b as u32
+    let from = place as usize + (a - address) as usize;
+    let end = place as usize + size as usize;
+    &bytes[from..end]
 }

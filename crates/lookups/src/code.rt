@@ -19,23 +19,29 @@ pub fn code_place(im: &[u32], at: SectionAddress) -> CodePlace
     requires { ⌜ tablesSound (now im) ≡ true ⌝ }
     ensures { λ r. ⌜ r ≡ codePlace (now (im .entry)) at ⌝ }
 {
+    if is_in_code(im, at) {
+        if at.address % 4 == 0 {
+            return CodePlace::Fine;
+        }
+        return CodePlace::Misaligned;
+    }
+    CodePlace::NotCode
+}
+
+// Whether a place is in code: its own section exists, is Code and holds the address.
+pub fn is_in_code(im: &[u32], at: SectionAddress) -> bool
+    requires { ⌜ tablesSound (now im) ≡ true ⌝ }
+    ensures { λ r. ⌜ r ≡ inCode (now (im .entry)) at ⌝ }
+{
     let i = at.section as usize;
     if section_count(im) <= i {
-        return CodePlace::NotCode;
+        return false;
     }
     let s = section(im, i);
     if s.kind != 0 {
-        return CodePlace::NotCode;
+        return false;
     }
-    if is_within(s.address, s.size, at.address) {
-        if at.address % 4 == 0 {
-            CodePlace::Fine
-        } else {
-            CodePlace::Misaligned
-        }
-    } else {
-        CodePlace::NotCode
-    }
+    is_within(s.address, s.size, at.address)
 }
 
 // The number of the Code word at a place of code: it is below W. It reads two words of each section before the place's own.

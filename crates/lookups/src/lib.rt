@@ -12,8 +12,8 @@ pub mod sorted;
 
 pub use bytes::data_from;
 pub use bytes::read_u32;
-pub use bytes::word_at_offset;
 pub use code::code_place;
+pub use code::is_in_code;
 pub use code::word_number;
 pub use relocations::relocation_target_for;
 pub use relocations::section_address_for;

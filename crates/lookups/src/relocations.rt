@@ -7,7 +7,7 @@ ghost use lib.ListN.{length};
 ghost use Rattle.search.specs.First.{first};
 ghost use Rattle.image.specs.Layout.{sections, unboundsFrom};
 ghost use Rattle.image.specs.Rules.{tablesSound};
-ghost use Rattle.lookups.specs.Relocations.{differs, boundTarget, unboundHere, unboundIndex, intoSection, unboundTarget, unboundFor, relocationFor, targetAt, placeIn, bareAddress, sectionAddressFor};
+ghost use Rattle.lookups.specs.Relocations.{differs, boundTarget, entryIs, unboundHere, unboundIndex, intoSection, unboundTarget, unboundFor, relocationFor, targetAt, placeIn, bareAddress, sectionAddressFor};
 use crate::Relocation;
 use crate::Wanted;
 use crate::sections::at_address;
@@ -83,15 +83,23 @@ fn first_unbound(im: &[u32], from: usize, n: usize, elf: u32, a: u32) -> Found
 {
     let mut j: usize = 0;
     while j < n {
-        let k = from + j * 6;
-        if im[k + 1] == a {
-            if im[k] == elf {
-                return Found::At(j);
-            }
+        if is_entry(im, from + j * 6, elf, a) {
+            return Found::At(j);
         }
         j += 1;
     }
     Found::Nothing
+}
+
+// Whether the entry that begins at a word is for that elf number and address. The address alone rules out most.
+fn is_entry(im: &[u32], k: usize, elf: u32, a: u32) -> bool
+    requires { ⌜ k + 1 < length (now im) ⌝ }
+    ensures { λ r. ⌜ r ≡ entryIs (now (im .entry)) k elf a ⌝ }
+{
+    if im[k + 1] != a {
+        return false;
+    }
+    im[k] == elf
 }
 
 // A value with no relocation: by the section that holds it in an Executable, else by section i alone.

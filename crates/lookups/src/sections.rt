@@ -2,12 +2,11 @@
 // Requires sound tables.
 ghost use mathlib.Core.Path.{_≡_};
 ghost use mathlib.Core.Bool.{true};
-ghost use Prim.Native.Nat.{ℕ, _+_, _*_, _≤_};
+ghost use Prim.Native.Nat.{_+_, _*_, _≤_};
 ghost use lib.ListN.{length};
 ghost use Rattle.search.specs.First.{first};
-ghost use Rattle.image.specs.Layout.{sectionAt};
-ghost use Rattle.image.specs.Rules.{holds, tablesSound};
-ghost use Rattle.lookups.specs.Sections.{atAddress, within};
+ghost use Rattle.image.specs.Rules.{tablesSound};
+ghost use Rattle.lookups.specs.Sections.{held, atAddress, within};
 use image::table::section_count;
 use search::Found;
 
@@ -21,7 +20,7 @@ pub fn at_address(im: &[u32], a: u32) -> Found
 
 fn first_holding(im: &[u32], n: usize, a: u32) -> Found
     requires { ⌜ n * 6 + 6 ≤ length (now im) ⌝ }
-    ensures { λ r. ⌜ r ≡ first (λ (i : ℕ). holds (sectionAt (now (im .entry)) i) a) n ⌝ }
+    ensures { λ r. ⌜ r ≡ first (held (now (im .entry)) a) n ⌝ }
 {
     let mut i: usize = 0;
     while i < n {

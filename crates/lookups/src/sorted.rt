@@ -2,7 +2,7 @@
 // Requires sound tables: their places ascend strictly, so the match that halving finds is the first.
 ghost use mathlib.Core.Path.{_≡_};
 ghost use mathlib.Core.Bool.{true};
-ghost use Prim.Native.Nat.{ℕ, _+_, _*_, _≤_, _<_};
+ghost use Prim.Native.Nat.{_+_, _*_, _^_, _≤_, _<_};
 ghost use lib.ListN.{length};
 ghost use Rattle.search.specs.First.{first};
 ghost use Rattle.image.specs.Rules.{tablesSound, ascending};
@@ -74,7 +74,7 @@ fn index_by_halves(im: &[u32], from: usize, stride: usize, n: usize, at: Section
 
 // A place as one number, whose order is the places'.
 fn key(section: u32, address: u32) -> u64
-    ensures { λ r. ⌜ r ≡ keyOf section address ⌝ }
+    ensures { λ r. ⌜ (r ≡ keyOf section address) × (address < 2 ^ 32) ⌝ }
 {
     section as u64 * 0x1_0000_0000 + address as u64
 }
