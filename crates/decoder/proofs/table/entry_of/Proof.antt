@@ -1,3 +1,4 @@
+-- `decoder::table::entry_of` meets its contract. 19 and 31 are looked up by the extended opcode, any other primary by itself.
 -- Assumes nothing.
 use borrow.Author.Needs.{needs}
 use mathlib.Core.Path.{_≡_, refl, sym, ap, _∙_}
