@@ -6,4 +6,5 @@ pub mod Columns
 pub mod Sets
 pub mod Lowest
 pub mod Blank
+pub mod Aligned
 pub mod Cases
