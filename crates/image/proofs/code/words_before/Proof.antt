@@ -1,0 +1,61 @@
+use native.Mathlib.Omega.{arith}
+use borrow.Author.Needs.{needs}
+use Rattle.image.proofs.code.words_before.Statement.{statement}
+use Rattle.image.proofs.code.words_before.Tie as tie
+use Rattle.image.proofs.code.words_before.Reads as reads
+use Rattle.image.proofs.code.words_before.Lts as lts
+use Rattle.image.proofs.code.words_of.Reads as words-of-reads
+use Rattle.image.proofs.table.section.Reads as section-reads
+
+abbrev Inv-loop : tie.InvT-loop
+Inv-loop im i sum₀ j₀ sum j = ?
+
+abbrev μ-loop : tie.MeasureT-loop
+μ-loop im i sum₀ j₀ sum j = ?
+
+-- src/code.rt:31:5
+loop-holds : tie.Need-loop-holds Inv-loop μ-loop
+loop-holds c = search needs
+
+-- src/code.rt:32:25
+section-requires : tie.Need-section-requires Inv-loop μ-loop
+section-requires c κs = search needs
+
+-- src/code.rt:32:16
+words-of-requires : tie.Need-words-of-requires Inv-loop μ-loop
+words-of-requires c κs = search needs
+
+-- src/code.rt:32:9
+add-sum : tie.Need-add-sum Inv-loop μ-loop
+add-sum c = search needs
+
+-- src/code.rt:33:9
+add-j : tie.Need-add-j Inv-loop μ-loop
+add-j c = search needs
+
+-- src/code.rt:31:5
+loop-less : tie.Need-loop-less Inv-loop μ-loop
+loop-less c = search needs
+
+-- src/code.rt:31:5
+loop-again : tie.Need-loop-again Inv-loop μ-loop
+loop-again c = search needs
+
+-- src/code.rt:25:1
+returns : tie.Need-returns Inv-loop μ-loop
+returns c = search needs
+
+pub words-before-spec : {M : Type 1} → statement M
+words-before-spec =
+    tie.close
+    (tie.spec
+    Inv-loop
+    μ-loop
+    loop-holds
+    section-requires
+    words-of-requires
+    add-sum
+    add-j
+    loop-less
+    loop-again
+    returns)

@@ -1,0 +1,67 @@
+use native.Mathlib.Omega.{arith}
+use borrow.Author.Needs.{needs}
+use Rattle.image.proofs.entries.unbounds_sound.Statement.{statement}
+use Rattle.image.proofs.entries.unbounds_sound.Tie as tie
+use Rattle.image.proofs.entries.unbounds_sound.Reads as reads
+use Rattle.image.proofs.entries.unbounds_sound.Lts as lts
+use Rattle.image.proofs.entries.unbound_sound.Reads as unbound-sound-reads
+use Rattle.image.proofs.table.unbound.Reads as unbound-reads
+use Rattle.image.proofs.table.unbound_count.Reads as unbound-count-reads
+
+abbrev Inv-loop : tie.InvT-loop
+Inv-loop im n j₀ j = ?
+
+abbrev μ-loop : tie.MeasureT-loop
+μ-loop im n j₀ j = ?
+
+-- src/entries.rt:100:9
+unbound-count-requires : tie.Need-unbound-count-requires Inv-loop μ-loop
+unbound-count-requires c κs = search needs
+
+-- src/entries.rt:102:5
+loop-holds : tie.Need-loop-holds Inv-loop μ-loop
+loop-holds c = search needs
+
+-- src/entries.rt:103:31
+unbound-requires : tie.Need-unbound-requires Inv-loop μ-loop
+unbound-requires c κs = search needs
+
+-- src/entries.rt:103:13
+unbound-sound-requires : tie.Need-unbound-sound-requires Inv-loop μ-loop
+unbound-sound-requires c κs = search needs
+
+-- src/entries.rt:104:13
+returns : tie.Need-returns Inv-loop μ-loop
+returns c = search needs
+
+-- src/entries.rt:106:9
+add-j : tie.Need-add-j Inv-loop μ-loop
+add-j c = search needs
+
+-- src/entries.rt:102:5
+loop-less : tie.Need-loop-less Inv-loop μ-loop
+loop-less c = search needs
+
+-- src/entries.rt:102:5
+loop-again : tie.Need-loop-again Inv-loop μ-loop
+loop-again c = search needs
+
+-- src/entries.rt:96:1
+returns-2 : tie.Need-returns-2 Inv-loop μ-loop
+returns-2 c = search needs
+
+pub unbounds-sound-spec : {M : Type 1} → statement M
+unbounds-sound-spec =
+    tie.close
+    (tie.spec
+    Inv-loop
+    μ-loop
+    unbound-count-requires
+    loop-holds
+    unbound-requires
+    unbound-sound-requires
+    returns
+    add-j
+    loop-less
+    loop-again
+    returns-2)
