@@ -1,3 +1,7 @@
+use Prim.Native.Nat.{ℕ, _+_, _-_, _*_, _≤_, _<_, _/_, _%_}
+use mathlib.Core.Bool.{Bool, true, false, _&&_, not}
+use mathlib.Core.Path.{_≡_, refl, sym, ap, _∙_}
+use borrow.Author.Tests.{eq-eqb, ne-eqb, lt-ltb, le-ltb, not-true, not-false, eqb-true, leb-true, lt-leb, le-leb}
 use native.Mathlib.Omega.{arith}
 use borrow.Author.Needs.{needs}
 use Rattle.image.proofs.entries.bound_sound.Statement.{statement}
@@ -13,7 +17,7 @@ shared-slice-read-if1 c = search needs
 
 -- src/entries.rt:44:9
 returns : tie.Need-returns
-returns c = ?
+returns c = rw (le-ltb _ _ (c .if1 .taken))
 
 -- src/entries.rt:46:38
 cast-section : tie.Need-cast-section
@@ -33,7 +37,7 @@ shared-slice-read-symbol c = search needs
 
 -- src/entries.rt:39:1
 returns-2 : tie.Need-returns-2
-returns-2 c = ?
+returns-2 c = rw (lt-ltb _ _ (c .before .before .before .before .before .before .before .if1 .left), c .before .before .before .before .lies-in .ensures, c .before .before .before .before .before .section .ensures)
 
 pub bound-sound-spec : {M : Type 1} → statement M
 bound-sound-spec =

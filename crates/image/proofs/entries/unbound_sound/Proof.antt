@@ -1,3 +1,12 @@
+use lib.Dec.{ltb}
+use Rattle.search.proofs.EveryLaws.{and-false-right}
+use Rattle.image.specs.Rules.{hasElf}
+use Rattle.image.specs.Layout.{sections}
+use Rattle.search.proofs.FirstMatch.{first-below}
+use Prim.Native.Nat.{ℕ, _+_, _-_, _*_, _≤_, _<_, _/_, _%_}
+use mathlib.Core.Bool.{Bool, true, false, _&&_, not}
+use mathlib.Core.Path.{_≡_, refl, sym, ap, _∙_}
+use borrow.Author.Tests.{eq-eqb, ne-eqb, lt-ltb, le-ltb, not-true, not-false, eqb-true, leb-true, lt-leb, le-leb}
 use native.Mathlib.Omega.{arith}
 use borrow.Author.Needs.{needs}
 use Rattle.image.proofs.entries.unbound_sound.Statement.{statement}
@@ -18,7 +27,9 @@ enum-known-found c = search needs
 
 -- src/entries.rt:90:48
 section-requires : tie.Need-section-requires
-section-requires c κs = ?
+section-requires c κs = 
+    let a = c .before .before .before .before .before .before .args in
+    omega (arith, first-below (hasElf (a .im .now) (a .r .section)) _ _ (sym (c .before .before .before .before .elf-index .ensures) ∙ c .before .before .found .given .1))
 
 -- src/entries.rt:90:40
 lies-in-requires : tie.Need-lies-in-requires
@@ -30,11 +41,13 @@ enum-told c = search needs
 
 -- src/entries.rt:84:1
 returns : tie.Need-returns
-returns c = ?
+returns c = rw (c .lies-in .ensures, c .before .section .ensures, sym (c .before .before .before .before .before .before .elf-index .ensures) ∙ c .before .before .before .before .found .given .1)
 
 -- src/entries.rt:84:1
 returns-2 : tie.Need-returns-2
-returns-2 c = ?
+returns-2 c = 
+    let found = sym (c .before .before .elf-index .ensures) ∙ c .enum-told .given .1 in
+    rw found (sym (and-false-right (ltb (c .before .before .before .before .args .r .kind) 2) false refl))
 
 pub unbound-sound-spec : {M : Type 1} → statement M
 unbound-sound-spec =

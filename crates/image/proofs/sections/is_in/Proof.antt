@@ -12,7 +12,7 @@ end-of-requires c κs = search needs
 
 -- src/sections.rt:24:1
 returns : tie.Need-returns
-returns c = ?
+returns c = rw (c .before .end-of .ensures)
 
 pub is-in-spec : {M : Type 1} → statement M
 is-in-spec = tie.close (tie.spec end-of-requires returns)

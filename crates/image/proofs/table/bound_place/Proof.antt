@@ -40,7 +40,7 @@ shared-slice-read-t10 c = search needs
 
 -- src/table.rt:98:1
 returns : tie.Need-returns
-returns c = ?
+returns c = rw (c .before .before .bounds-from .ensures)
 
 pub bound-place-spec : {M : Type 1} → statement M
 bound-place-spec =

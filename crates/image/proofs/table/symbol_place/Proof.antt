@@ -40,7 +40,7 @@ shared-slice-read-t10 c = search needs
 
 -- src/table.rt:140:1
 returns : tie.Need-returns
-returns c = ?
+returns c = rw (c .before .before .symbols-from .ensures)
 
 pub symbol-place-spec : {M : Type 1} → statement M
 symbol-place-spec =

@@ -1,0 +1,2 @@
+-- Laws of images, for the crates above.
+pub mod SoundTables
