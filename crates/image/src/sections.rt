@@ -1,7 +1,7 @@
 // The rules on sections, each by itself and two by two, and on their data.
 // Functions over an image require that its tables are laid out; our own crates alone call them.
 ghost use mathlib.Core.Path.{_≡_};
-ghost use Prim.Native.Nat.{ℕ, _<_};
+ghost use Prim.Native.Nat.{ℕ, _<_, min, max};
 ghost use Rattle.search.specs.Every.{every};
 ghost use Rattle.image.specs.Layout.{sections, sectionAt};
 ghost use Rattle.image.specs.Laid.{Laid};
@@ -67,15 +67,31 @@ pub fn sections_sound(im: &[u32]) -> bool
     true
 }
 
+fn smaller(a: u64, b: u64) -> u64
+    ensures { λ r. ⌜ r ≡ min a b ⌝ }
+{
+    if a <= b {
+        return a;
+    }
+    b
+}
+
+fn larger(a: u64, b: u64) -> u64
+    ensures { λ r. ⌜ r ≡ max a b ⌝ }
+{
+    if a <= b {
+        return b;
+    }
+    a
+}
+
 // Two sections share no byte.
 pub fn are_apart(s: Section, t: Section) -> bool
     ensures { λ r. ⌜ r ≡ apart s t ⌝ }
 {
-    let s_end = end_of(s);
-    let t_end = end_of(t);
-    let end = if s_end <= t_end { s_end } else { t_end };
-    let start = if s.address <= t.address { t.address } else { s.address };
-    end <= start as u64
+    let end = smaller(end_of(s), end_of(t));
+    let start = larger(s.address as u64, t.address as u64);
+    end <= start
 }
 
 // Section i shares no byte with one before it.

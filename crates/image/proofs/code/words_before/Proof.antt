@@ -8,10 +8,10 @@ use Rattle.image.proofs.code.words_of.Reads as words-of-reads
 use Rattle.image.proofs.table.section.Reads as section-reads
 
 abbrev Inv-loop : tie.InvT-loop
-Inv-loop im i sum₀ j₀ sum j = ?
+Inv-loop im i sum₀ j₀ sum j = (j ≤ i) × (sum ≡ wordsBefore im j) × (sum ≤ j * 2 ^ 30)
 
 abbrev μ-loop : tie.MeasureT-loop
-μ-loop im i sum₀ j₀ sum j = ?
+μ-loop im i sum₀ j₀ sum j = i - j
 
 -- src/code.rt:31:5
 loop-holds : tie.Need-loop-holds Inv-loop μ-loop

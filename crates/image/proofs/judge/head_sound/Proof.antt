@@ -23,7 +23,7 @@ returns c = rw (sym (c .before .laid-out .ensures) ∙ not-true _ (c .if1 .taken
 
 -- src/judge.rt:27:9
 is-counted-requires : tie.Need-is-counted-requires
-is-counted-requires c κs = long-head _ (sym (c .before .laid-out .ensures) ∙ not-false _ (c .if1 .left))
+is-counted-requires c κs = long-head (c .before .before .before .args .im .now) (sym (c .before .laid-out .ensures) ∙ not-false _ (c .if1 .left))
 
 -- src/judge.rt:28:9
 returns-2 : tie.Need-returns-2
@@ -31,7 +31,7 @@ returns-2 c = rw (sym (c .before .before .before .laid-out .ensures) ∙ not-fal
 
 -- src/judge.rt:30:5
 is-kind-known-requires : tie.Need-is-kind-known-requires
-is-kind-known-requires c κs = long-head _ (sym (c .before .before .before .laid-out .ensures) ∙ not-false _ (c .before .before .if1 .left))
+is-kind-known-requires c κs = long-head (c .before .before .before .before .before .args .im .now) (sym (c .before .before .before .laid-out .ensures) ∙ not-false _ (c .before .before .if1 .left))
 
 -- src/judge.rt:21:1
 returns-3 : tie.Need-returns-3
