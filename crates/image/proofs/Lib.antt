@@ -1,2 +1,3 @@
 -- Laws of images, for the crates above.
 pub mod SoundTables
+pub mod CodeWords

@@ -32,6 +32,12 @@ laid-by ws e h =
       few-symbols = leb-true _ _ (chain-at first rest 3 h);
     }
 
+-- the rules on the head are enough
+pub laid-head : (ws : List ℕ) → laidOut ws && counted ws && kindKnown ws ≡ true → Laid ws
+laid-head ws e =
+    let rest = counted ws ∷ kindKnown ws ∷ [] in
+    laid-by ws (chain-first (laidOut ws) rest e) (chain-at (laidOut ws) rest 0 e)
+
 pub record SoundTables (ws : List ℕ) : Type 0 where
   pub laid : Laid ws
   pub kind-known : imageKind ws < 2

@@ -1,7 +1,7 @@
 // Code words, counted in section order.
 // Requires that the tables are laid out; our own crates alone call these, after `check_image`.
 ghost use mathlib.Core.Path.{_≡_};
-ghost use Prim.Native.Nat.{_≤_};
+ghost use Prim.Native.Nat.{_<_, _≤_, _^_};
 ghost use Rattle.image.specs.Layout.{sections};
 ghost use Rattle.image.specs.Laid.{Laid};
 ghost use Rattle.image.specs.Rules.{wordsOf, wordsBefore, codeWords, fewCodeWords};
@@ -11,9 +11,9 @@ use crate::numbers::MAX_CODE_WORDS;
 use crate::table::section;
 use crate::table::section_count;
 
-// The Code words of a section.
+// The Code words of a section, fewer than 2^30.
 pub fn words_of(s: Section) -> usize
-    ensures { λ r. ⌜ r ≡ wordsOf s ⌝ }
+    ensures { λ r. ⌜ (r ≡ wordsOf s) × (r < 2 ^ 30) ⌝ }
 {
     if s.kind == CODE {
         return (s.size / 4) as usize;

@@ -1,3 +1,5 @@
+use Rattle.image.specs.Rules.{wordsBefore}
+use mathlib.Core.Path.{ap, _∙_}
 use native.Mathlib.Omega.{arith}
 use borrow.Author.Needs.{needs}
 use Rattle.image.proofs.code.code_words.Statement.{statement}
@@ -17,7 +19,7 @@ words-before-requires c κs = search needs
 
 -- src/code.rt:39:1
 returns : tie.Need-returns
-returns c = ?
+returns c = c .words-before .ensures ∙ ap (wordsBefore (c .before .before .before .args .im .now)) (c .before .section-count .ensures)
 
 pub code-words-spec : {M : Type 1} → statement M
 code-words-spec = tie.close (tie.spec section-count-requires words-before-requires returns)

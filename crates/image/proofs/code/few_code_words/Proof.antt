@@ -12,7 +12,7 @@ code-words-requires c κs = search needs
 
 -- src/code.rt:47:1
 returns : tie.Need-returns
-returns c = ?
+returns c = rw (c .code-words .ensures)
 
 pub few-code-words-spec : {M : Type 1} → statement M
 few-code-words-spec = tie.close (tie.spec code-words-requires returns)

@@ -15,11 +15,11 @@ cast-result c = search needs
 
 -- src/code.rt:19:9
 returns : tie.Need-returns
-returns c = rw (eq-eqb _ _ (c .before .if1 .taken))
+returns c = (rw (eq-eqb _ _ (c .before .if1 .taken)), omega arith)
 
 -- src/code.rt:15:1
 returns-2 : tie.Need-returns-2
-returns-2 c = rw (ne-eqb _ _ (c .if1 .left))
+returns-2 c = (rw (ne-eqb _ _ (c .if1 .left)), omega arith)
 
 pub words-of-spec : {M : Type 1} → statement M
 words-of-spec = tie.close (tie.spec cast-result returns returns-2)

@@ -27,7 +27,7 @@ enum-known-found c = search needs
 
 -- src/entries.rt:90:48
 section-requires : tie.Need-section-requires
-section-requires c κs = 
+section-requires c κs =
     let a = c .before .before .before .before .before .before .args in
     omega (arith, first-below (hasElf (a .im .now) (a .r .section)) _ _ (sym (c .before .before .before .before .elf-index .ensures) ∙ c .before .before .found .given .1))
 
@@ -45,7 +45,7 @@ returns c = rw (c .lies-in .ensures, c .before .section .ensures, sym (c .before
 
 -- src/entries.rt:84:1
 returns-2 : tie.Need-returns-2
-returns-2 c = 
+returns-2 c =
     let found = sym (c .before .before .elf-index .ensures) ∙ c .enum-told .given .1 in
     rw found (sym (and-false-right (ltb (c .before .before .before .before .args .r .kind) 2) false refl))
 

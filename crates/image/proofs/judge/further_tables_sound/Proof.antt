@@ -1,3 +1,5 @@
+use borrow.Author.Tests.{not-true, not-false}
+use mathlib.Core.Path.{_≡_, sym, _∙_}
 use native.Mathlib.Omega.{arith}
 use borrow.Author.Needs.{needs}
 use Rattle.image.proofs.judge.further_tables_sound.Statement.{statement}
@@ -16,7 +18,7 @@ bounds-sound-requires c κs = search needs
 
 -- src/judge.rt:56:9
 returns : tie.Need-returns
-returns c = ?
+returns c = rw (sym (c .before .bounds-sound .ensures) ∙ not-true _ (c .if1 .taken))
 
 -- src/judge.rt:58:9
 bounds-ascend-requires : tie.Need-bounds-ascend-requires
@@ -24,7 +26,7 @@ bounds-ascend-requires c κs = search needs
 
 -- src/judge.rt:59:9
 returns-2 : tie.Need-returns-2
-returns-2 c = ?
+returns-2 c = rw (sym (c .before .before .before .bounds-sound .ensures) ∙ not-false _ (c .before .before .if1 .left), sym (c .before .bounds-ascend .ensures) ∙ not-true _ (c .if2 .taken))
 
 -- src/judge.rt:61:9
 unbounds-sound-requires : tie.Need-unbounds-sound-requires
@@ -32,7 +34,7 @@ unbounds-sound-requires c κs = search needs
 
 -- src/judge.rt:62:9
 returns-3 : tie.Need-returns-3
-returns-3 c = ?
+returns-3 c = rw (sym (c .before .before .before .before .before .bounds-sound .ensures) ∙ not-false _ (c .before .before .before .before .if1 .left), sym (c .before .before .before .bounds-ascend .ensures) ∙ not-false _ (c .before .before .if2 .left), sym (c .before .unbounds-sound .ensures) ∙ not-true _ (c .if3 .taken))
 
 -- src/judge.rt:64:9
 symbols-sound-requires : tie.Need-symbols-sound-requires
@@ -40,7 +42,7 @@ symbols-sound-requires c κs = search needs
 
 -- src/judge.rt:65:9
 returns-4 : tie.Need-returns-4
-returns-4 c = ?
+returns-4 c = rw (sym (c .before .before .before .before .before .before .before .bounds-sound .ensures) ∙ not-false _ (c .before .before .before .before .before .before .if1 .left), sym (c .before .before .before .before .before .bounds-ascend .ensures) ∙ not-false _ (c .before .before .before .before .if2 .left), sym (c .before .before .before .unbounds-sound .ensures) ∙ not-false _ (c .before .before .if3 .left), sym (c .before .symbols-sound .ensures) ∙ not-true _ (c .if4 .taken))
 
 -- src/judge.rt:67:5
 symbols-ascend-requires : tie.Need-symbols-ascend-requires
@@ -48,7 +50,7 @@ symbols-ascend-requires c κs = search needs
 
 -- src/judge.rt:51:1
 returns-5 : tie.Need-returns-5
-returns-5 c = ?
+returns-5 c = rw (c .symbols-ascend .ensures, sym (c .before .before .before .before .before .before .before .before .bounds-sound .ensures) ∙ not-false _ (c .before .before .before .before .before .before .before .if1 .left), sym (c .before .before .before .before .before .before .bounds-ascend .ensures) ∙ not-false _ (c .before .before .before .before .before .if2 .left), sym (c .before .before .before .before .unbounds-sound .ensures) ∙ not-false _ (c .before .before .before .if3 .left), sym (c .before .before .symbols-sound .ensures) ∙ not-false _ (c .before .if4 .left))
 
 pub further-tables-sound-spec : {M : Type 1} → statement M
 further-tables-sound-spec =

@@ -1,3 +1,5 @@
+use borrow.Author.Tests.{not-true, not-false}
+use mathlib.Core.Path.{_≡_, sym, _∙_}
 use native.Mathlib.Omega.{arith}
 use borrow.Author.Needs.{needs}
 use Rattle.image.proofs.judge.section_table_sound.Statement.{statement}
@@ -15,7 +17,7 @@ sections-sound-requires c κs = search needs
 
 -- src/judge.rt:39:9
 returns : tie.Need-returns
-returns c = ?
+returns c = rw (sym (c .before .sections-sound .ensures) ∙ not-true _ (c .if1 .taken))
 
 -- src/judge.rt:41:9
 elf-distinct-requires : tie.Need-elf-distinct-requires
@@ -23,7 +25,7 @@ elf-distinct-requires c κs = search needs
 
 -- src/judge.rt:42:9
 returns-2 : tie.Need-returns-2
-returns-2 c = ?
+returns-2 c = rw (sym (c .before .before .before .sections-sound .ensures) ∙ not-false _ (c .before .before .if1 .left), sym (c .before .elf-distinct .ensures) ∙ not-true _ (c .if2 .taken))
 
 -- src/judge.rt:44:9
 sections-apart-requires : tie.Need-sections-apart-requires
@@ -31,7 +33,7 @@ sections-apart-requires c κs = search needs
 
 -- src/judge.rt:45:9
 returns-3 : tie.Need-returns-3
-returns-3 c = ?
+returns-3 c = rw (sym (c .before .before .before .before .before .sections-sound .ensures) ∙ not-false _ (c .before .before .before .before .if1 .left), sym (c .before .before .before .elf-distinct .ensures) ∙ not-false _ (c .before .before .if2 .left), sym (c .before .sections-apart .ensures) ∙ not-true _ (c .if3 .taken))
 
 -- src/judge.rt:47:5
 few-code-words-requires : tie.Need-few-code-words-requires
@@ -39,7 +41,7 @@ few-code-words-requires c κs = search needs
 
 -- src/judge.rt:34:1
 returns-4 : tie.Need-returns-4
-returns-4 c = ?
+returns-4 c = rw (c .few-code-words .ensures, sym (c .before .before .before .before .before .before .sections-sound .ensures) ∙ not-false _ (c .before .before .before .before .before .if1 .left), sym (c .before .before .before .before .elf-distinct .ensures) ∙ not-false _ (c .before .before .before .if2 .left), sym (c .before .before .sections-apart .ensures) ∙ not-false _ (c .before .if3 .left))
 
 pub section-table-sound-spec : {M : Type 1} → statement M
 section-table-sound-spec =

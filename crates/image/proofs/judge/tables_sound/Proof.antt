@@ -1,3 +1,7 @@
+use Rattle.image.specs.Rules.{tablesSound}
+use Rattle.image.proofs.SoundTables.{laid-head}
+use borrow.Author.Tests.{not-true, not-false}
+use mathlib.Core.Path.{_≡_, sym, _∙_}
 use native.Mathlib.Omega.{arith}
 use borrow.Author.Needs.{needs}
 use Rattle.image.proofs.judge.tables_sound.Statement.{statement}
@@ -14,23 +18,26 @@ head-sound-requires c κs = search needs
 
 -- src/judge.rt:75:9
 returns : tie.Need-returns
-returns c = ?
+unfolding tablesSound
+returns c = rw (sym (c .before .head-sound .ensures) ∙ not-true _ (c .if1 .taken))
 
 -- src/judge.rt:77:9
 section-table-sound-requires : tie.Need-section-table-sound-requires
-section-table-sound-requires c κs = ?
+section-table-sound-requires c κs = laid-head (c .before .before .before .args .im .now) (sym (c .before .head-sound .ensures) ∙ not-false _ (c .if1 .left))
 
 -- src/judge.rt:78:9
 returns-2 : tie.Need-returns-2
-returns-2 c = ?
+unfolding tablesSound
+returns-2 c = rw (sym (c .before .before .before .head-sound .ensures) ∙ not-false _ (c .before .before .if1 .left), sym (c .before .section-table-sound .ensures) ∙ not-true _ (c .if2 .taken))
 
 -- src/judge.rt:80:5
 further-tables-sound-requires : tie.Need-further-tables-sound-requires
-further-tables-sound-requires c κs = ?
+further-tables-sound-requires c κs = laid-head (c .before .before .before .before .before .args .im .now) (sym (c .before .before .before .head-sound .ensures) ∙ not-false _ (c .before .before .if1 .left))
 
 -- src/judge.rt:71:1
 returns-3 : tie.Need-returns-3
-returns-3 c = ?
+unfolding tablesSound
+returns-3 c = rw (c .further-tables-sound .ensures, sym (c .before .before .before .before .head-sound .ensures) ∙ not-false _ (c .before .before .before .if1 .left), sym (c .before .before .section-table-sound .ensures) ∙ not-false _ (c .before .if2 .left))
 
 pub tables-sound-spec : {M : Type 1} → statement M
 tables-sound-spec =

@@ -34,7 +34,7 @@ larger-requires c κs = search needs
 
 -- src/sections.rt:89:1
 returns : tie.Need-returns
-returns c = ?
+returns c = rw (c .larger .ensures, c .before .before .before .smaller .ensures, c .before .before .before .before .end-of2 .ensures, c .before .before .before .before .before .end-of .ensures)
 
 pub are-apart-spec : {M : Type 1} → statement M
 are-apart-spec =

@@ -1,3 +1,4 @@
+use Rattle.image.specs.declared.Section.{Section}
 use Rattle.image.specs.Rules.{dataInside}
 use lib.Dec.{leb}
 use Rattle.image.specs.Layout.{sections, bounds, unbounds, symbols, sectionAt, boundAt, unboundAt, symbolAt}
@@ -7,7 +8,7 @@ use borrow.Author.Tests.{eq-eqb, ne-eqb, lt-leb, le-leb, not-true, not-false}
 use Prim.Native.Nat.{ℕ, _+_, _-_, _*_, _≤_, _<_}
 use mathlib.Core.List.{List}
 use mathlib.Core.Bool.{Bool, true, false, not}
-use mathlib.Core.Path.{_≡_, refl, sym, ap, _∙_}
+use mathlib.Core.Path.{_≡_, refl, sym, ap, subst, _∙_}
 use native.Mathlib.Omega.{arith}
 use borrow.Author.Needs.{needs}
 use Rattle.image.proofs.sections.data_inside.Statement.{statement}
@@ -53,7 +54,7 @@ add-if1 c = search needs
 -- src/sections.rt:126:13
 returns : tie.Need-returns Inv-loop μ-loop
 unfolding dataInside
-returns c = sym (every-fails (inside-at (c .before .before .before .before .before .before .before .before .args .im .now) (c .before .before .before .before .before .before .before .before .args .n)) _ (c .before .before .before .before .before .loop .i) (omega arith) (rw (← (c .before .before .before .section .ensures)) (lt-leb _ _ (c .if1 .taken))))
+returns c = sym (every-fails (inside-at (c .before .before .before .before .before .before .before .before .args .im .now) (c .before .before .before .before .before .before .before .before .args .n)) _ (c .before .before .before .before .before .loop .i) (omega arith) (subst (λ (s : Section). leb (s .place + s .length) (c .before .before .before .before .before .before .before .before .args .n) ≡ false) (c .before .before .before .section .ensures) (lt-leb _ _ (c .if1 .taken))))
 
 -- src/sections.rt:128:9
 add-i : tie.Need-add-i Inv-loop μ-loop
@@ -65,7 +66,7 @@ loop-less c = search needs
 
 -- src/sections.rt:123:5
 loop-again : tie.Need-loop-again Inv-loop μ-loop
-loop-again c = (omega arith, every-more (inside-at (c .before .before .before .before .before .before .before .before .args .im .now) (c .before .before .before .before .before .before .before .before .args .n)) (c .before .before .before .before .before .loop .i) (c .before .before .before .before .before .loop .inv .1) (rw (← (c .before .before .before .section .ensures)) (le-leb _ _ (c .if1 .left))))
+loop-again c = (omega arith, every-more (inside-at (c .before .before .before .before .before .before .before .before .args .im .now) (c .before .before .before .before .before .before .before .before .args .n)) (c .before .before .before .before .before .loop .i) (c .before .before .before .before .before .loop .inv .1) (subst (λ (s : Section). leb (s .place + s .length) (c .before .before .before .before .before .before .before .before .args .n) ≡ true) (c .before .before .before .section .ensures) (le-leb _ _ (c .if1 .left))))
 
 -- src/sections.rt:117:1
 returns-2 : tie.Need-returns-2 Inv-loop μ-loop
