@@ -1,4 +1,4 @@
--- What sound tables are, each rule by its name; the rules at each index are in Sections and Entries.
+-- What sound tables are, each rule by its name; the rules at each index are in SectionLaws and EntryLaws.
 -- Assumes nothing.
 use mathlib.Core.Path.{_≡_}
 use mathlib.Core.Bool.{Bool, true, _&&_}
