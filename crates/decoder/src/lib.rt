@@ -62,7 +62,7 @@ pub enum Op {
     Subfc,
 }
 
-// Which of its fields name the general registers that a word writes.
+// The kinds of sets of general registers that a word writes: none, or what its fields rD and rA name.
 pub enum Writes {
     Nothing,
     Rd,
@@ -70,6 +70,7 @@ pub enum Writes {
     RdRa,
 }
 
+// What a word is: its operation, and which registers it writes.
 pub struct Decoded {
     pub op: Op,
     pub writes: Writes,
