@@ -1,0 +1,5 @@
+-- Laws that belong to no one function.
+pub mod Accesses
+pub mod Blank
+pub mod Targets
+pub mod Turns
