@@ -116,12 +116,14 @@ pub fn step_word(im: &[u32], at: SectionAddress, w: u32, s: VM) -> Stepped
             goes_on(t)
         }
         Effect::FromLr => {
-            let v = t.lr.value;
+            let h = t.lr;
+            let v = h.value;
             t.gpr[d] = set_direct(v);
             goes_on(t)
         }
         Effect::FromCtr => {
-            let v = t.ctr.value;
+            let h = t.ctr;
+            let v = h.value;
             t.gpr[d] = set_direct(v);
             goes_on(t)
         }
@@ -137,7 +139,8 @@ pub fn step_word(im: &[u32], at: SectionAddress, w: u32, s: VM) -> Stepped
         Effect::Clear(kind) => goes_on(clear(kind, w, t)),
         Effect::Leaves(way) => {
             let k = (field::bi(w) / 4) as usize;
-            let v = t.ctr.value;
+            let h = t.ctr;
+            let v = h.value;
             let l = ways::leave(im, at, w, way, v, t.cr[k]);
             ways::left(l, at, t)
         }

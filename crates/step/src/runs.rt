@@ -65,12 +65,14 @@ pub fn run(im: &[u32], code: &[u8], at: SectionAddress, s: VM) -> Stopped
                 continue;
             }
             Effect::FromLr => {
-                let v = t.lr.value;
+                let h = t.lr;
+                let v = h.value;
                 t.gpr[d] = set_direct(v);
                 continue;
             }
             Effect::FromCtr => {
-                let v = t.ctr.value;
+                let h = t.ctr;
+                let v = h.value;
                 t.gpr[d] = set_direct(v);
                 continue;
             }
@@ -103,7 +105,8 @@ pub fn run(im: &[u32], code: &[u8], at: SectionAddress, s: VM) -> Stopped
             },
             Effect::Leaves(way) => {
                 let k = (field::bi(w) / 4) as usize;
-                let v = t.ctr.value;
+                let h = t.ctr;
+                let v = h.value;
                 let l = ways::leave(im, q, w, way, v, t.cr[k]);
                 return Stopped {
                     leave: l,

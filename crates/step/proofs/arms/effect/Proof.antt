@@ -1,3 +1,4 @@
+use Rattle.step.proofs.Masks.{masked}
 use Rattle.step.proofs.Accesses.{access-arm}
 use mathlib.Core.Path.{sym, _∙_}
 use Rattle.step.specs.Arms.{effectBy}
@@ -390,12 +391,12 @@ returns-15 c = rw (c .compare4 .ensures, c .before .uimm .ensures, c .before .be
 -- src/arms.rt:21:1
 returns-16 : tie.Need-returns-16
 unfolding effectBy
-returns-16 c = rw (c .set-direct5 .ensures, c .before .rotate .ensures, c .before .before .sh .ensures, c .before .before .before .mask-value .ensures, c .before .before .before .before .me .ensures, c .before .before .before .before .before .mb .ensures, c .before .before .before .before .before .before .enum-told16 .given .1)
+returns-16 c = rw (c .set-direct5 .ensures, c .before .rotate .ensures, c .before .before .sh .ensures, c .before .before .before .mask-value .ensures, c .before .before .before .before .me .ensures, c .before .before .before .before .before .mb .ensures, c .before .before .before .before .before .before .enum-told16 .given .1, masked (c .before .before .before .before .before .before .before .before .before .args .w))
 
 -- src/arms.rt:21:1
 returns-17 : tie.Need-returns-17
 unfolding effectBy
-returns-17 c = rw (c .set-direct6 .ensures, c .before .rlwnm .ensures, c .before .before .mask-value2 .ensures, c .before .before .before .me2 .ensures, c .before .before .before .before .mb2 .ensures, c .before .before .before .before .before .enum-told17 .given .1)
+returns-17 c = rw (c .set-direct6 .ensures, c .before .rlwnm .ensures, c .before .before .mask-value2 .ensures, c .before .before .before .me2 .ensures, c .before .before .before .before .mb2 .ensures, c .before .before .before .before .before .enum-told17 .given .1, masked (c .before .before .before .before .before .before .before .before .args .w))
 
 -- src/arms.rt:21:1
 returns-18 : tie.Need-returns-18

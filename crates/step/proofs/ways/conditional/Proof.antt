@@ -39,7 +39,7 @@ returns-2 c = rw (c .before .before .split-values-by-crb .ensures, c .before .be
 -- src/ways.rt:59:1
 returns-3 : tie.Need-returns-3
 unfolding conditionalOf
-returns-3 c = rw (c .before .before .split-values-by-crb .ensures, c .before .before .before .bi .ensures, ← c .before .bo .ensures, ne-eqb _ _ (c .match .rest .0 .1), ne-eqb _ _ (c .match .rest .1))
+returns-3 c = rw (← c .before .bo .ensures, ne-eqb _ _ (c .match .rest .0 .1), ne-eqb _ _ (c .match .rest .1))
 
 pub conditional-spec : {M : Type 1} → statement M
 conditional-spec =

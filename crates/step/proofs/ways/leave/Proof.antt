@@ -101,17 +101,17 @@ enum-told-6 c = search needs
 -- src/ways.rt:100:1
 returns : tie.Need-returns
 unfolding leaveOf
-returns c = rw (c .before .before .bo .ensures, c .enum-told .given .1)
+returns c = rw (c .enum-told .given .1)
 
 -- src/ways.rt:100:1
 returns-2 : tie.Need-returns-2
 unfolding leaveOf
-returns-2 c = rw (c .before .before .before .before .before .bo .ensures, c .before .before .before .enum-told2 .given .1, ← c .before .before .lk .ensures, ← c .before .aa .ensures, c .if1 .taken)
+returns-2 c = rw (c .before .before .before .enum-told2 .given .1, ← c .before .before .lk .ensures, ← c .before .aa .ensures, c .if1 .taken)
 
 -- src/ways.rt:100:1
 returns-3 : tie.Need-returns-3
 unfolding leaveOf
-returns-3 c = rw (c .branch .ensures, c .before .reached .ensures, c .before .before .section-address-for .ensures, c .before .before .before .branch-dest .ensures, c .before .before .before .before .before .before .before .before .before .bo .ensures, c .before .before .before .before .before .before .before .enum-told2 .given .1, ← c .before .before .before .before .before .before .lk .ensures, ← c .before .before .before .before .before .aa .ensures, c .before .before .before .before .if1 .left)
+returns-3 c = rw (c .branch .ensures, c .before .reached .ensures, c .before .before .section-address-for .ensures, c .before .before .before .branch-dest .ensures, c .before .before .before .before .before .before .before .enum-told2 .given .1, ← c .before .before .before .before .before .before .lk .ensures, ← c .before .before .before .before .before .aa .ensures, c .before .before .before .before .if1 .left)
 
 -- src/ways.rt:100:1
 returns-4 : tie.Need-returns-4
@@ -131,7 +131,7 @@ returns-6 c = rw (c .branch4 .ensures, c .before .before .before .bo .ensures, c
 -- src/ways.rt:100:1
 returns-7 : tie.Need-returns-7
 unfolding leaveOf
-returns-7 c = rw (c .before .before .bo .ensures, c .enum-told6 .given .1)
+returns-7 c = rw (c .enum-told6 .given .1)
 
 pub leave-spec : {M : Type 1} → statement M
 leave-spec =

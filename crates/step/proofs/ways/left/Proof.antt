@@ -57,17 +57,17 @@ enum-known-l-4 c = search needs
 -- src/ways.rt:134:1
 returns : tie.Need-returns
 unfolding leftOf
-returns c = rw (c .before .before .offset .ensures, c .enum-told .given .1)
+returns c = rw (c .enum-told .given .1)
 
 -- src/ways.rt:134:1
 returns-2 : tie.Need-returns-2
 unfolding leftOf
-returns-2 c = rw (c .before .before .offset .ensures, c .enum-told2 .given .1)
+returns-2 c = rw (c .enum-told2 .given .1)
 
 -- src/ways.rt:134:1
 returns-3 : tie.Need-returns-3
 unfolding leftOf
-returns-3 c = rw (c .before .before .before .offset .ensures, c .before .l .given .1)
+returns-3 c = rw (c .before .l .given .1)
 
 -- src/ways.rt:134:1
 returns-4 : tie.Need-returns-4
