@@ -1,3 +1,7 @@
+use Rattle.image.specs.Rules.{sound}
+use lib.ListN.{length}
+use Rattle.step.proofs.Judging.{when-sound, when-broken, both-hold}
+use mathlib.Core.Path.{sym}
 use native.Mathlib.Omega.{arith}
 use borrow.Author.Needs.{needs}
 use Rattle.step.proofs.step.Statement.{statement}
@@ -27,7 +31,7 @@ enum-told-2 c = search needs
 
 -- src/lib.rt:139:17
 code-place-requires : tie.Need-code-place-requires
-code-place-requires c κs = ?
+code-place-requires c κs = both-hold _ _ (when-sound (sound (c .before .before .before .before .before .args .im .now) (length (c .before .before .before .before .before .args .«data» .now))) (rw (c .enum-told2 .given .1) at (sym (c .before .before .check-image .ensures))))
 
 -- src/lib.rt:141:47
 enum-told-3 : tie.Need-enum-told-3
@@ -51,23 +55,23 @@ enum-told-5 c = search needs
 
 -- src/lib.rt:143:36
 step-word-requires : tie.Need-step-word-requires
-step-word-requires c κs = ?
+step-word-requires c κs = both-hold _ _ (when-sound (sound (c .before .before .before .before .before .before .before .before .args .im .now) (length (c .before .before .before .before .before .before .before .before .args .«data» .now))) (rw (c .before .before .before .enum-told2 .given .1) at (sym (c .before .before .before .before .before .check-image .ensures))))
 
 -- src/lib.rt:132:1
 returns : tie.Need-returns
-returns c = ?
+returns c = rw (c .refused .ensures, when-broken (sound (c .before .before .before .before .before .before .args .im .now) (length (c .before .before .before .before .before .before .args .«data» .now))) (rw (c .before .enum-told .given .1) at (sym (c .before .before .before .check-image .ensures))))
 
 -- src/lib.rt:132:1
 returns-2 : tie.Need-returns-2
-returns-2 c = ?
+returns-2 c = rw (c .refused2 .ensures, when-sound (sound (c .before .before .before .before .before .before .before .before .before .args .im .now) (length (c .before .before .before .before .before .before .before .before .before .args .«data» .now))) (rw (c .before .before .before .before .enum-told2 .given .1) at (sym (c .before .before .before .before .before .before .check-image .ensures))), ← c .before .before .before .code-place .ensures, c .before .enum-told3 .given .1)
 
 -- src/lib.rt:132:1
 returns-3 : tie.Need-returns-3
-returns-3 c = ?
+returns-3 c = rw (c .refused3 .ensures, when-sound (sound (c .before .before .before .before .before .before .before .before .before .args .im .now) (length (c .before .before .before .before .before .before .before .before .before .args .«data» .now))) (rw (c .before .before .before .before .enum-told2 .given .1) at (sym (c .before .before .before .before .before .before .check-image .ensures))), ← c .before .before .before .code-place .ensures, c .before .enum-told4 .given .1)
 
 -- src/lib.rt:132:1
 returns-4 : tie.Need-returns-4
-returns-4 c = ?
+returns-4 c = rw (c .step-word .ensures, when-sound (sound (c .before .before .before .before .before .before .before .before .before .args .im .now) (length (c .before .before .before .before .before .before .before .before .before .args .«data» .now))) (rw (c .before .before .before .before .enum-told2 .given .1) at (sym (c .before .before .before .before .before .before .check-image .ensures))), ← c .before .before .before .code-place .ensures, c .before .enum-told5 .given .1)
 
 pub step-spec : {M : Type 1} → statement M
 step-spec =

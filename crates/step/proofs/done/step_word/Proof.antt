@@ -1,3 +1,5 @@
+use Rattle.step.proofs.Turns.{step-by}
+use Rattle.step.specs.Step.{doneOf}
 use native.Mathlib.Omega.{arith}
 use borrow.Author.Needs.{needs}
 use Rattle.step.proofs.done.step_word.Statement.{statement}
@@ -276,51 +278,63 @@ left-requires c κs = search needs
 
 -- src/done.rt:83:1
 returns : tie.Need-returns
-returns c = ?
+unfolding doneOf
+returns c = rw (c .goes-on .ensures) (step-by (c .before .before .before .before .before .before .before .before .before .before .before .before .args .im .now) (c .before .before .before .before .before .before .before .before .before .before .before .before .args .at) (c .before .before .before .before .before .before .before .before .before .before .before .before .args .w) (c .before .before .before .before .before .before .before .before .before .before .before .before .args .s) (c .before .before .before .before .before .before .before .before .before .before .rd .ensures) (c .before .before .before .before .before .before .before .before .before .ra .ensures) (c .before .before .before .before .before .before .before .before .rb .ensures) (c .before .before .before .before .before .before .before .decode .ensures) (c .before .before .before .effect .ensures) (c .before .enum-told .given .1))
 
 -- src/done.rt:83:1
 returns-2 : tie.Need-returns-2
-returns-2 c = ?
+unfolding doneOf
+returns-2 c = rw (c .goes-on2 .ensures, c .before .before .before .before .before .before .before .before .before .before .before .rd .ensures) (step-by (c .before .before .before .before .before .before .before .before .before .before .before .before .before .args .im .now) (c .before .before .before .before .before .before .before .before .before .before .before .before .before .args .at) (c .before .before .before .before .before .before .before .before .before .before .before .before .before .args .w) (c .before .before .before .before .before .before .before .before .before .before .before .before .before .args .s) (c .before .before .before .before .before .before .before .before .before .before .before .rd .ensures) (c .before .before .before .before .before .before .before .before .before .before .ra .ensures) (c .before .before .before .before .before .before .before .before .before .rb .ensures) (c .before .before .before .before .before .before .before .before .decode .ensures) (c .before .before .before .before .effect .ensures) (c .before .before .e .given .1))
 
 -- src/done.rt:83:1
 returns-3 : tie.Need-returns-3
-returns-3 c = ?
+unfolding doneOf
+returns-3 c = rw (c .goes-on3 .ensures, c .before .before .before .before .before .before .before .before .before .before .ra .ensures) (step-by (c .before .before .before .before .before .before .before .before .before .before .before .before .before .args .im .now) (c .before .before .before .before .before .before .before .before .before .before .before .before .before .args .at) (c .before .before .before .before .before .before .before .before .before .before .before .before .before .args .w) (c .before .before .before .before .before .before .before .before .before .before .before .before .before .args .s) (c .before .before .before .before .before .before .before .before .before .before .before .rd .ensures) (c .before .before .before .before .before .before .before .before .before .before .ra .ensures) (c .before .before .before .before .before .before .before .before .before .rb .ensures) (c .before .before .before .before .before .before .before .before .decode .ensures) (c .before .before .before .before .effect .ensures) (c .before .before .e2 .given .1))
 
 -- src/done.rt:83:1
 returns-4 : tie.Need-returns-4
-returns-4 c = ?
+unfolding doneOf
+returns-4 c = rw (c .goes-on4 .ensures, c .before .crfd .ensures, c .before .before .before .before .before .before .before .before .before .before .before .ra .ensures) (step-by (c .before .before .before .before .before .before .before .before .before .before .before .before .before .before .args .im .now) (c .before .before .before .before .before .before .before .before .before .before .before .before .before .before .args .at) (c .before .before .before .before .before .before .before .before .before .before .before .before .before .before .args .w) (c .before .before .before .before .before .before .before .before .before .before .before .before .before .before .args .s) (c .before .before .before .before .before .before .before .before .before .before .before .before .rd .ensures) (c .before .before .before .before .before .before .before .before .before .before .before .ra .ensures) (c .before .before .before .before .before .before .before .before .before .before .rb .ensures) (c .before .before .before .before .before .before .before .before .before .decode .ensures) (c .before .before .before .before .before .effect .ensures) (c .before .before .before .e3 .given .1))
 
 -- src/done.rt:83:1
 returns-5 : tie.Need-returns-5
-returns-5 c = ?
+unfolding doneOf
+returns-5 c = rw (c .goes-on5 .ensures) (step-by (c .before .before .before .before .before .before .before .before .before .before .before .before .before .args .im .now) (c .before .before .before .before .before .before .before .before .before .before .before .before .before .args .at) (c .before .before .before .before .before .before .before .before .before .before .before .before .before .args .w) (c .before .before .before .before .before .before .before .before .before .before .before .before .before .args .s) (c .before .before .before .before .before .before .before .before .before .before .before .rd .ensures) (c .before .before .before .before .before .before .before .before .before .before .ra .ensures) (c .before .before .before .before .before .before .before .before .before .rb .ensures) (c .before .before .before .before .before .before .before .before .decode .ensures) (c .before .before .before .before .effect .ensures) (c .before .before .e4 .given .1))
 
 -- src/done.rt:83:1
 returns-6 : tie.Need-returns-6
-returns-6 c = ?
+unfolding doneOf
+returns-6 c = rw (c .goes-on6 .ensures) (step-by (c .before .before .before .before .before .before .before .before .before .before .before .before .before .args .im .now) (c .before .before .before .before .before .before .before .before .before .before .before .before .before .args .at) (c .before .before .before .before .before .before .before .before .before .before .before .before .before .args .w) (c .before .before .before .before .before .before .before .before .before .before .before .before .before .args .s) (c .before .before .before .before .before .before .before .before .before .before .before .rd .ensures) (c .before .before .before .before .before .before .before .before .before .before .ra .ensures) (c .before .before .before .before .before .before .before .before .before .rb .ensures) (c .before .before .before .before .before .before .before .before .decode .ensures) (c .before .before .before .before .effect .ensures) (c .before .before .e5 .given .1))
 
 -- src/done.rt:83:1
 returns-7 : tie.Need-returns-7
-returns-7 c = ?
+unfolding doneOf
+returns-7 c = rw (c .goes-on7 .ensures, c .before .set-direct .ensures, c .before .before .before .before .before .before .before .before .before .before .before .before .rd .ensures) (step-by (c .before .before .before .before .before .before .before .before .before .before .before .before .before .before .args .im .now) (c .before .before .before .before .before .before .before .before .before .before .before .before .before .before .args .at) (c .before .before .before .before .before .before .before .before .before .before .before .before .before .before .args .w) (c .before .before .before .before .before .before .before .before .before .before .before .before .before .before .args .s) (c .before .before .before .before .before .before .before .before .before .before .before .before .rd .ensures) (c .before .before .before .before .before .before .before .before .before .before .before .ra .ensures) (c .before .before .before .before .before .before .before .before .before .before .rb .ensures) (c .before .before .before .before .before .before .before .before .before .decode .ensures) (c .before .before .before .before .before .effect .ensures) (c .before .before .before .enum-told2 .given .1))
 
 -- src/done.rt:83:1
 returns-8 : tie.Need-returns-8
-returns-8 c = ?
+unfolding doneOf
+returns-8 c = rw (c .goes-on8 .ensures, c .before .set-direct2 .ensures, c .before .before .before .before .before .before .before .before .before .before .before .before .rd .ensures) (step-by (c .before .before .before .before .before .before .before .before .before .before .before .before .before .before .args .im .now) (c .before .before .before .before .before .before .before .before .before .before .before .before .before .before .args .at) (c .before .before .before .before .before .before .before .before .before .before .before .before .before .before .args .w) (c .before .before .before .before .before .before .before .before .before .before .before .before .before .before .args .s) (c .before .before .before .before .before .before .before .before .before .before .before .before .rd .ensures) (c .before .before .before .before .before .before .before .before .before .before .before .ra .ensures) (c .before .before .before .before .before .before .before .before .before .before .rb .ensures) (c .before .before .before .before .before .before .before .before .before .decode .ensures) (c .before .before .before .before .before .effect .ensures) (c .before .before .before .enum-told3 .given .1))
 
 -- src/done.rt:83:1
 returns-9 : tie.Need-returns-9
-returns-9 c = ?
+unfolding doneOf
+returns-9 c = rw (c .accessed-by .ensures, c .before .set-direct3 .ensures, c .before .before .before .before .before .before .before .before .before .before .before .before .rd .ensures, c .before .before .before .before .before .before .before .before .before .before .before .ra .ensures) (step-by (c .before .before .before .before .before .before .before .before .before .before .before .before .before .before .args .im .now) (c .before .before .before .before .before .before .before .before .before .before .before .before .before .before .args .at) (c .before .before .before .before .before .before .before .before .before .before .before .before .before .before .args .w) (c .before .before .before .before .before .before .before .before .before .before .before .before .before .before .args .s) (c .before .before .before .before .before .before .before .before .before .before .before .before .rd .ensures) (c .before .before .before .before .before .before .before .before .before .before .before .ra .ensures) (c .before .before .before .before .before .before .before .before .before .before .rb .ensures) (c .before .before .before .before .before .before .before .before .before .decode .ensures) (c .before .before .before .before .before .effect .ensures) (c .before .before .before .e6 .given .1))
 
 -- src/done.rt:83:1
 returns-10 : tie.Need-returns-10
-returns-10 c = ?
+unfolding doneOf
+returns-10 c = rw (c .accessed-by2 .ensures, c .before .before .before .before .before .before .before .before .before .before .ra .ensures) (step-by (c .before .before .before .before .before .before .before .before .before .before .before .before .before .args .im .now) (c .before .before .before .before .before .before .before .before .before .before .before .before .before .args .at) (c .before .before .before .before .before .before .before .before .before .before .before .before .before .args .w) (c .before .before .before .before .before .before .before .before .before .before .before .before .before .args .s) (c .before .before .before .before .before .before .before .before .before .before .before .rd .ensures) (c .before .before .before .before .before .before .before .before .before .before .ra .ensures) (c .before .before .before .before .before .before .before .before .before .rb .ensures) (c .before .before .before .before .before .before .before .before .decode .ensures) (c .before .before .before .before .effect .ensures) (c .before .before .e7 .given .1))
 
 -- src/done.rt:83:1
 returns-11 : tie.Need-returns-11
-returns-11 c = ?
+unfolding doneOf
+returns-11 c = rw (c .goes-on9 .ensures, c .before .clear .ensures) (step-by (c .before .before .before .before .before .before .before .before .before .before .before .before .before .before .args .im .now) (c .before .before .before .before .before .before .before .before .before .before .before .before .before .before .args .at) (c .before .before .before .before .before .before .before .before .before .before .before .before .before .before .args .w) (c .before .before .before .before .before .before .before .before .before .before .before .before .before .before .args .s) (c .before .before .before .before .before .before .before .before .before .before .before .before .rd .ensures) (c .before .before .before .before .before .before .before .before .before .before .before .ra .ensures) (c .before .before .before .before .before .before .before .before .before .before .rb .ensures) (c .before .before .before .before .before .before .before .before .before .decode .ensures) (c .before .before .before .before .before .effect .ensures) (c .before .before .before .e8 .given .1))
 
 -- src/done.rt:83:1
 returns-12 : tie.Need-returns-12
-returns-12 c = ?
+unfolding doneOf
+returns-12 c = rw (c .left .ensures, c .before .leave .ensures, c .before .before .before .before .bi .ensures) (step-by (c .before .before .before .before .before .before .before .before .before .before .before .before .before .before .before .before .before .args .im .now) (c .before .before .before .before .before .before .before .before .before .before .before .before .before .before .before .before .before .args .at) (c .before .before .before .before .before .before .before .before .before .before .before .before .before .before .before .before .before .args .w) (c .before .before .before .before .before .before .before .before .before .before .before .before .before .before .before .before .before .args .s) (c .before .before .before .before .before .before .before .before .before .before .before .before .before .before .before .rd .ensures) (c .before .before .before .before .before .before .before .before .before .before .before .before .before .before .ra .ensures) (c .before .before .before .before .before .before .before .before .before .before .before .before .before .rb .ensures) (c .before .before .before .before .before .before .before .before .before .before .before .before .decode .ensures) (c .before .before .before .before .before .before .before .before .effect .ensures) (c .before .before .before .before .before .before .e9 .given .1))
 
 pub step-word-spec : {M : Type 1} → statement M
 step-word-spec =
