@@ -60,7 +60,7 @@ fn apply(folder: &Path, texts: &mut [String]) {
                 (1, "--- new") => part = 2,
                 (2, "--- end") => {
                     let count = texts[at].matches(&old).count();
-                    assert!(count == 1, "{}: the old text is found {count} times in {file}", path.display());
+                    assert!(count == 1, "{}: found {count} times in {file}: {old}", path.display());
                     texts[at] = texts[at].replace(&old, &new);
                     (old, new, part, edits) = (String::new(), String::new(), 0, edits + 1);
                 }
