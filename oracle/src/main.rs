@@ -30,28 +30,34 @@ use answer::{IMAGE, Record, answer};
 use image::Image;
 use rng::Rng;
 
-/// From this many cases on, every class of classes.txt must be reached.
+/// From this many cases on, every class of classes.txt must be reached; those marked ~ from four times as many on.
 const ENOUGH: u64 = 100_000;
 
 const USAGE: &str = "\
-oracle make SEED COUNT CASES ANSWERS   cases from a seed, with the oracle's answers; counts of classes go to stderr
-oracle answer CASES ANSWERS            answers to an existing file of cases
-oracle show CASES N                    case N (from 0), readable, with the oracle's answer
-oracle sample SEED COUNT CASES ANSWERS out of COUNT cases those that reach a class the first times, without giants
-oracle classes SEED COUNT              the classes that COUNT cases reach, one on a line
-oracle planted CASES ANSWERS           (built with the feature planted) each wrong version against the right answers
-A --plant N in front asks for wrong version N.";
+oracle make SEED COUNT CASES ANSWERS    cases from a seed, with the oracle's answers; counts of classes go to stderr
+oracle sample SEED COUNT CASES ANSWERS  out of COUNT cases those that reach a class the first times, without giants
+oracle answer CASES ANSWERS             answers to an existing file of cases
+oracle show CASES N                     case N (from 0), readable, with the oracle's answer
+oracle planted CASES ANSWERS            (built with the feature planted) each wrong version against the right answers
+In front of these: --kinds K  make cases of kinds up to K (8 unless said; at most 12)
+                   --plant N  answer as wrong version N (built with the feature planted)";
 
 fn main() {
     let mut args: Vec<String> = std::env::args().skip(1).collect();
-    if args.first().is_some_and(|a| a == "--plant") && args.len() > 1 {
-        plants::set(args[1].parse().expect("a number"));
+    let mut kinds = 8;
+    while args.len() > 1 && args[0].starts_with("--") {
+        let number = args[1].parse().unwrap_or_else(|_| fail(USAGE));
+        match args[0].as_str() {
+            "--plant" => plants::set(number),
+            "--kinds" if (8..=12).contains(&number) => kinds = number,
+            _ => fail(USAGE),
+        }
         args.drain(..2);
     }
     let args: Vec<&str> = args.iter().map(|a| a.as_str()).collect();
     let number = |s: &str| -> u64 { s.parse().unwrap_or_else(|_| fail(&format!("{s} is no number"))) };
     match args[..] {
-        ["make", seed, count, cases, answers] => make_cases(number(seed), number(count), cases, answers),
+        ["make", seed, count, cases, answers] => make_cases(number(seed), number(count), kinds, cases, answers),
         ["answer", cases, answers] => {
             let records = read_cases(cases);
             let mut current = Image::default();
@@ -59,12 +65,7 @@ fn main() {
             write(answers, text.as_bytes());
         }
         ["show", cases, n] => show::show(&read_cases(cases), number(n) as usize),
-        ["sample", seed, count, cases, answers] => sample(number(seed), number(count), cases, answers),
-        ["classes", seed, count] => {
-            let mut stats = Stats::default();
-            run(number(seed), number(count), true, |current, record, answer| stats.add(current, record, answer));
-            stats.counts.iter().for_each(|(class, _)| println!("{class}"));
-        }
+        ["sample", seed, count, cases, answers] => sample(number(seed), number(count), kinds, cases, answers),
         ["planted", cases, answers] => planted(cases, answers),
         _ => fail(USAGE),
     }
@@ -107,12 +108,12 @@ fn read_cases(path: &str) -> Vec<Record> {
 }
 
 /// Makes cases and answers them, in order.
-fn run(seed: u64, count: u64, giants: bool, mut each: impl FnMut(&Image, &Record, &[u32])) {
+fn run(seed: u64, count: u64, kinds: u32, giants: bool, mut each: impl FnMut(&Image, &Record, &[u32])) {
     let mut rng = Rng::new(seed);
     let mut current = Image::default();
     let (mut made, mut number) = (0, 0);
     while made < count {
-        for record in make::group(&mut rng, number, giants) {
+        for record in make::group(&mut rng, number, giants, kinds) {
             if made == count {
                 return;
             }
@@ -136,9 +137,10 @@ impl Stats {
         }
     }
 
-    /// Prints the counts and answers the classes of classes.txt that were not reached.
-    fn missing(&self, skip: impl Fn(&str) -> bool) -> Vec<&'static str> {
+    /// The classes of classes.txt that were not reached.
+    fn missing(&self, rare: bool, skip: impl Fn(&str) -> bool) -> Vec<&'static str> {
         let wanted = include_str!("../classes.txt").lines().filter(|l| !l.is_empty() && !l.starts_with('#'));
+        let wanted = wanted.filter(|c| rare || !c.starts_with("~ ")).map(|c| c.trim_start_matches("~ "));
         wanted.filter(|c| !skip(c) && !self.counts.contains_key(*c)).collect()
     }
 
@@ -146,6 +148,16 @@ impl Stats {
         for (class, count) in &self.counts {
             eprintln!("{count:>9}  {class}");
         }
+    }
+}
+
+/// The highest kind of case that a class needs.
+fn needs_kind(class: &str) -> u32 {
+    match class.split(&[' ', ':']).next().unwrap_or("") {
+        "script" => 9,
+        "walk" => 10,
+        "report" => if class.starts_with("report write") { 11 } else { 12 },
+        _ => 8,
     }
 }
 
@@ -157,9 +169,9 @@ fn needs_giant(class: &str) -> bool {
         || class.ends_with("code words") && class.starts_with("image")
 }
 
-fn make_cases(seed: u64, count: u64, cases: &str, answers: &str) {
+fn make_cases(seed: u64, count: u64, kinds: u32, cases: &str, answers: &str) {
     let (mut bytes, mut text, mut stats) = (Vec::new(), String::new(), Stats::default());
-    run(seed, count, true, |current, record, words| {
+    run(seed, count, kinds, true, |current, record, words| {
         put_record(&mut bytes, record);
         text.push_str(&line(words));
         stats.add(current, record, words);
@@ -167,7 +179,7 @@ fn make_cases(seed: u64, count: u64, cases: &str, answers: &str) {
     write(cases, &bytes);
     write(answers, text.as_bytes());
     stats.print();
-    let missing = stats.missing(|_| false);
+    let missing = stats.missing(count >= 4 * ENOUGH, |class| needs_kind(class) > kinds);
     if !missing.is_empty() {
         for class in &missing {
             eprintln!("    never  {class}");
@@ -179,40 +191,44 @@ fn make_cases(seed: u64, count: u64, cases: &str, answers: &str) {
     }
 }
 
-/// A case is kept if it reaches a class for the first or second time; an image if a case kept looks at it.
-fn sample(seed: u64, count: u64, cases: &str, answers: &str) {
+/// A case is kept if it reaches a class that none before it did; an image if a case kept looks at it. Small cases are
+/// asked first, then any.
+fn sample(seed: u64, count: u64, kinds: u32, cases: &str, answers: &str) {
     let (mut bytes, mut text, mut kept, mut stats) = (Vec::new(), String::new(), 0, Stats::default());
-    let mut waiting: Option<(Record, Vec<u32>)> = None;
-    run(seed, count, false, |current, record, words| {
-        let fresh = classes::classes(current, record, words)
-            .iter()
-            .any(|c| stats.counts.get(c).copied().unwrap_or(0) < if record.kind == IMAGE { 1 } else { 2 });
-        if record.kind == IMAGE {
-            waiting = Some((record.clone(), words.to_vec()));
-        }
-        if !fresh {
-            return;
-        }
-        stats.add(current, record, words);
-        let mut keep = |record: &Record, words: &[u32]| {
-            put_record(&mut bytes, record);
-            text.push_str(&line(words));
-            kept += 1;
-        };
-        // Kinds 2 to 5 look at no image.
-        if (2..=5).contains(&record.kind) {
-            return keep(record, words);
-        }
-        if let Some((image, answer)) = waiting.take() {
-            keep(&image, &answer);
-        }
-        if record.kind != IMAGE {
-            keep(record, words);
-        }
-    });
+    for most in [60, 120, 200, 400, usize::MAX] {
+        let mut image: Option<(Record, Vec<u32>)> = None;
+        let mut small = false;
+        run(seed, count, kinds, false, |current, record, words| {
+            if record.kind == IMAGE {
+                small = record.payload.len() <= most;
+                image = Some((record.clone(), words.to_vec()));
+            }
+            // Kinds 2 to 5 look at no image.
+            let alone = (2..=5).contains(&record.kind);
+            if !(small || alone) || record.payload.len() + words.len() > most.saturating_mul(2) {
+                return;
+            }
+            let reached = classes::classes(current, record, words);
+            if reached.iter().all(|c| stats.counts.contains_key(c)) {
+                return;
+            }
+            let mut keep = |current: &Image, record: &Record, words: &[u32]| {
+                put_record(&mut bytes, record);
+                text.push_str(&line(words));
+                stats.add(current, record, words);
+                kept += 1;
+            };
+            if !alone && let Some((image, answer)) = image.take() {
+                keep(current, &image, &answer);
+            }
+            if record.kind != IMAGE {
+                keep(current, record, words);
+            }
+        });
+    }
     write(cases, &bytes);
     write(answers, text.as_bytes());
-    let missing = stats.missing(needs_giant);
+    let missing = stats.missing(true, |class| needs_giant(class) || needs_kind(class) > kinds);
     for class in &missing {
         eprintln!("    never  {class}");
     }

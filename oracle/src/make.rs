@@ -14,7 +14,9 @@ use crate::{
     make_image::*,
     make_word::*,
     pieces::*,
+    report::report,
     rng::Rng,
+    walk::{run_script, set_bit},
 };
 
 /// What a case may look at.
@@ -24,8 +26,8 @@ pub struct Ground {
     pub giant: bool,
 }
 
-/// A group of records; the first is the image.
-pub fn group(rng: &mut Rng, number: u64, giants: bool) -> Vec<Record> {
+/// A group of records; the first is the image. Kinds go up to `highest`.
+pub fn group(rng: &mut Rng, number: u64, giants: bool, highest: u32) -> Vec<Record> {
     let (mut made, mut giant_one) = (None, false);
     match rng.below(100) {
         _ if giants && number % 50 == 7 => {
@@ -66,6 +68,17 @@ pub fn group(rng: &mut Rng, number: u64, giants: bool) -> Vec<Record> {
         rng.from_to(15, 45)
     };
     for _ in 0..count {
+        let upper = rng.below(100);
+        if upper < 14 && highest > TABLE && (!giant_one || upper == 0) {
+            let kind = rng.pick(&[SCRIPT, SCRIPT, WALK, WALK, WALK, WRITE, READ]).min(highest);
+            out.push(match kind {
+                SCRIPT => script(rng, &ground),
+                WALK => walk(rng, &ground),
+                WRITE => report_write(rng, &ground),
+                _ => report_read(rng, &ground),
+            });
+            continue;
+        }
         let case = match rng.below(100) {
             0..=7 => Record { kind: DECODE, payload: vec![any_word(rng)] },
             8 => Record { kind: MASK, payload: vec![rng.below(32), rng.below(32)] },
@@ -358,6 +371,10 @@ pub fn state_for(rng: &mut Rng, g: &Ground, ins: Ins) -> Box<VM> {
                 vm.lr = value(rng, g);
             }
         }
+        Opcode::Addi | Opcode::Addic | Opcode::Addic_ if rng.chance(45) => {
+            vm.gpr[a].value =
+                if rng.chance(50) { constant(rng, g) } else { GprValue::Address(target(rng, g)) };
+        }
         Opcode::Mfspr | Opcode::Mtspr => {
             if rng.chance(80) {
                 vm.lr = value(rng, g);
@@ -402,7 +419,9 @@ fn step(rng: &mut Rng, g: &Ground) -> Record {
     // A load's base that reaches into a section.
     let ins = Ins::new(w);
     let mut vm = state_for(rng, g, ins);
-    if w >> 26 >= 32 && rng.chance(45) {
+    if w >> 26 >= 32 && rng.chance(20) {
+        vm.gpr[ins.field_ra() as usize].value = GprValue::Address(target(rng, g));
+    } else if w >> 26 >= 32 && rng.chance(45) {
         let base = about(rng, &g.t).wrapping_sub(ins.field_simm() as u32);
         vm.gpr[ins.field_ra() as usize].value = GprValue::Constant(base);
     }
@@ -507,4 +526,276 @@ fn table(rng: &mut Rng, g: &Ground) -> Record {
     put_optional_place(&mut payload, end);
     payload.extend([room, rng.word() | 1]);
     Record { kind: TABLE, payload }
+}
+
+/// A map with room for W bits, sometimes one word more or less.
+fn map(rng: &mut Rng, g: &Ground) -> Vec<u32> {
+    let words = g.image.code_words.div_ceil(32);
+    let words = match rng.below(16) {
+        0 => words.saturating_sub(1),
+        1..=3 => words + 1,
+        4 => rng.below(words + 1),
+        _ => words,
+    };
+    let style = rng.below(6);
+    let mut out: Vec<u32> = (0..words)
+        .map(|_| match style {
+            0 => rng.word(),
+            1 => rng.word() & rng.word() & rng.word(),
+            2 => u32::MAX,
+            _ => 0,
+        })
+        .collect();
+    // Bits from W up are the caller's.
+    for at in g.image.code_words..(32 * words) {
+        set_bit(&mut out, at, rng.chance(50));
+    }
+    out
+}
+
+fn small_state(rng: &mut Rng, g: &Ground) -> Box<VM> {
+    let mut vm = VM::new();
+    for _ in 0..rng.below(3) {
+        vm.gpr[rng.below(32) as usize] = register(rng, g);
+    }
+    if rng.chance(20) {
+        vm.cr[rng.below(8) as usize] = Cr { left: value(rng, g), right: value(rng, g), signed: rng.chance(50) };
+    }
+    if rng.chance(20) {
+        vm.ctr = value(rng, g);
+    }
+    if rng.chance(10) {
+        vm.lr = value(rng, g);
+    }
+    vm
+}
+
+/// A place in a section that is not there.
+fn nowhere(rng: &mut Rng, g: &Ground) -> SectionAddress {
+    let n = g.t.sections.len() as u32;
+    SectionAddress::new(rng.pick(&[n, n + 1, 64, 255, u32::MAX]), about(rng, &g.t))
+}
+
+/// Mostly an aligned code word.
+fn start(rng: &mut Rng, g: &Ground) -> SectionAddress {
+    if rng.chance(2) {
+        return nowhere(rng, g);
+    }
+    if rng.chance(88)
+        && let Some(p) = code_word(rng, g)
+    {
+        return p;
+    }
+    place_in(rng, g, |k| k == 0)
+}
+
+fn script(rng: &mut Rng, g: &Ground) -> Record {
+    let slots = rng.pick(&[0, 1, 1, 2, 2, 3, 4, 8, 8, 8]);
+    let map = map(rng, g);
+    let mut head = vec![slots, map.len() as u32];
+    head.extend(&map);
+    let (mut ops, mut count) = (Vec::new(), 0);
+    let with = |ops: &[u32], count: u32| {
+        let mut payload = head.clone();
+        payload.push(count);
+        payload.extend(ops);
+        payload
+    };
+    let wanted = rng.from_to(3, 18);
+    while count < wanted {
+        // What runs or waits now decides what is asked next.
+        let payload = with(&ops, count);
+        let (_, now) = run_script(&g.image, &mut Words::new(&payload));
+        let usual = rng.chance(90);
+        let idle = !now.waits && !now.runs && now.held == 0;
+        match if idle && rng.chance(75) { 0 } else { rng.below(20) } {
+            0..=3 => {
+                let place = start(rng, g);
+                ops.extend([1, rng.chance(60) as u32, place.section, place.address]);
+                put_state(&mut ops, &small_state(rng, g));
+            }
+            4 | 5 => {
+                let place = start(rng, g);
+                ops.extend([4, place.section, place.address]);
+            }
+            6 => {
+                let place = match rng.below(16) {
+                    0 => nowhere(rng, g),
+                    1..=7 => any_place(rng, g),
+                    _ => place_in(rng, g, |k| k == 0),
+                };
+                let waiting = rng.below(2);
+                let code = g.t.sections.get(place.section as usize).filter(|s| s.kind == 0);
+                let end = code.is_some_and(|s| s.address.wrapping_add(s.size) == place.address);
+                let sound = g.image.obj.as_ref().is_some_and(|obj| judge_place(obj, place) == 0);
+                if sound || end && waiting == 0 {
+                    continue;
+                }
+                ops.extend([5, waiting, place.section, place.address]);
+            }
+            _ if now.waits == usual => {
+                let here = now.here.unwrap_or(SectionAddress::new(0, 0));
+                let kind = rng.pick(&[0, 0, 0, 1, 1, 2, 3]);
+                let to = match rng.below(14) {
+                    0 => any_place(rng, g),
+                    12 | 13 => place_in(rng, g, |k| k == 0),
+                    1 => here,
+                    2 => start(rng, g),
+                    3 if rng.chance(30) => nowhere(rng, g),
+                    3 => SectionAddress::new(here.section, about(rng, &g.t)),
+                    _ => {
+                        // In the same section.
+                        let s = g.t.sections.get(here.section as usize).filter(|s| s.size >= 4);
+                        let at = s.map_or(here.address, |s| s.address + 4 * rng.below(s.size / 4));
+                        SectionAddress::new(here.section, at + rng.chance(6) as u32)
+                    }
+                };
+                let to = if kind == 1 { to } else { SectionAddress::new(0, 0) };
+                let changed = rng.chance(25);
+                ops.extend([3, kind, to.section, to.address, changed as u32]);
+                if changed {
+                    put_state(&mut ops, &small_state(rng, g));
+                }
+            }
+            _ => ops.push(2),
+        }
+        count += 1;
+    }
+    Record { kind: SCRIPT, payload: with(&ops, count) }
+}
+
+fn walk(rng: &mut Rng, g: &Ground) -> Record {
+    let words = map(rng, g).len() as u32;
+    let fill = match rng.below(3) {
+        0 => 0,
+        1 => u32::MAX,
+        _ => rng.word(),
+    };
+    let count = rng.pick(&[0, 1, 1, 1, 1, 2, 2, 2, 3, 5]);
+    // Few slots end the walk with 5, at the starts or later.
+    let slots = match rng.below(10) {
+        0..=3 => count + rng.below(3),
+        4 => rng.below(3),
+        _ => 64,
+    };
+    let mut payload = vec![slots, words, fill];
+    for _ in 0..2 {
+        let given = rng.chance(50);
+        payload.extend([given as u32, if given { about(rng, &g.t) } else { 0 }]);
+    }
+    let from = if rng.chance(70) { SectionAddress::new(0, 0) } else { loose_place(rng, g) };
+    payload.extend([from.section, from.address]);
+    put_optional_place(&mut payload, rng.chance(30).then(|| loose_place(rng, g)));
+    payload.push(count);
+    for _ in 0..count {
+        let place = match rng.below(20) {
+            0 => None,
+            1 => Some(place_in(rng, g, |k| k == 0)),
+            2 => Some(any_place(rng, g)),
+            _ => code_word(rng, g),
+        };
+        let place = place.unwrap_or_else(|| start(rng, g));
+        payload.extend([place.section, place.address]);
+    }
+    // Two bad starts: the first one decides.
+    if count >= 2 && rng.chance(12) {
+        let (a, b) = (payload.len() - 4, payload.len() - 2);
+        let (bad, misaligned) = if rng.chance(50) { (a, b) } else { (b, a) };
+        payload[bad] = g.t.sections.len() as u32;
+        payload[misaligned + 1] |= 1;
+    }
+    Record { kind: WALK, payload }
+}
+
+fn report_write(rng: &mut Rng, g: &Ground) -> Record {
+    let map = map(rng, g);
+    let enough = map.len() as u64 * 32 >= g.image.code_words as u64;
+    let length = match &g.image.obj {
+        Some(obj) if enough => report(obj, &map).len() as u32,
+        _ => 3,
+    };
+    let room = match rng.below(6) {
+        0 | 1 => length,
+        2 => length - 1,
+        3 => rng.below(length),
+        _ => length + rng.below(9),
+    };
+    let mut payload = vec![map.len() as u32];
+    payload.extend(&map);
+    payload.extend([room.min(4096), rng.below(256)]);
+    Record { kind: WRITE, payload }
+}
+
+fn report_read(rng: &mut Rng, g: &Ground) -> Record {
+    let before = map(rng, g);
+    // Bits to be found in the report, whatever the map was.
+    let words = g.image.code_words.div_ceil(32);
+    let dense = rng.below(4);
+    let bits: Vec<u32> = (0..words)
+        .map(|_| match dense {
+            0 => rng.word(),
+            1 => u32::MAX,
+            2 => rng.word() & rng.word(),
+            _ => 0,
+        })
+        .collect();
+    let mut bytes = g.image.obj.as_ref().map_or(vec![1, 1, 0], |obj| report(obj, &bits));
+    match rng.below(16) {
+        0..=4 => {}
+        5 => bytes.truncate(rng.below(bytes.len() as u32) as usize),
+        6 => bytes.push(rng.pick(&[0, 1, 0x80])),
+        7 => bytes[0] = rng.pick(&[0, 2, 0x81, 1]),
+        8 => bytes[1] = bytes[1].wrapping_add(rng.pick(&[1, 255, 128])),
+        9 | 10 => {
+            // A number in a longer form.
+            let at = rng.below(bytes.len() as u32) as usize;
+            if bytes[at] < 0x80 {
+                bytes[at] |= 0x80;
+                bytes.splice(at + 1..at + 1, rng.pick(&[&[0][..], &[0x80, 0], &[0x80, 0x80, 0x80, 0], &[0x80, 0x80, 0x80, 0x80, 0]]).iter().copied());
+            }
+        }
+        11 | 12 => {
+            let at = rng.below(bytes.len() as u32) as usize;
+            bytes[at] = match rng.below(5) {
+                0 => 0,
+                1 => bytes[at].wrapping_add(1),
+                2 => bytes[at].wrapping_sub(1),
+                3 => bytes[at] ^ 1 << rng.below(8),
+                _ => rng.below(256) as u8,
+            };
+        }
+        13 => {
+            // A run cut in two, or two joined: one more or one fewer run.
+            if let Some(obj) = &g.image.obj {
+                bytes = vec![1, obj.sections.len() as u8];
+                for (_, s) in obj.sections.iter() {
+                    let words = if s.kind == crate::obj::ObjSectionKind::Code { s.size as u32 / 4 } else { 0 };
+                    match words {
+                        2..=9 => bytes.extend([2, 0, 1, rng.below(2) as u8, words as u8 - 1]),
+                        10..=100 => bytes.extend([2, rng.below(2) as u8, rng.below(3) as u8, 1, rng.from_to(0, words) as u8]),
+                        _ if rng.chance(10) => bytes.extend([1, 0, rng.below(2) as u8]),
+                        _ => bytes.push(0),
+                    }
+                }
+            }
+        }
+        14 => {
+            // Numbers about 2^32.
+            let at = rng.below(bytes.len() as u32) as usize;
+            let long: &[u8] = match rng.below(4) {
+                0 => &[0xff, 0xff, 0xff, 0xff, 0x0f],
+                1 => &[0x80, 0x80, 0x80, 0x80, 0x10],
+                2 => &[0xff, 0xff, 0xff, 0xff, 0x1f],
+                _ => &[0xff, 0xff, 0xff, 0xff, 0xff, 0x01],
+            };
+            bytes.splice(at..at + 1, long.iter().copied());
+        }
+        _ => bytes = (0..rng.below(8)).map(|_| rng.below(4) as u8).collect(),
+    }
+    bytes.truncate(4096);
+    let mut payload = vec![before.len() as u32];
+    payload.extend(&before);
+    payload.push(bytes.len() as u32);
+    payload.extend(pack(&bytes));
+    Record { kind: READ, payload }
 }

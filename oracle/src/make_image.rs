@@ -1,7 +1,7 @@
 //! Images for the cases: sound ones of all shapes, and ones with a single rule at, below or above its bound.
 use crate::{
     image::{Bound, Image, MAX_ENTRIES, NO_SYMBOL_SECTION, Section, Symbol, Tables, Unbound},
-    make_word::{numbers, word},
+    make_word::{idiom, numbers, word},
     rng::Rng,
 };
 
@@ -53,7 +53,9 @@ fn layout(rng: &mut Rng, t: &mut Tables) {
 
 fn small_size(rng: &mut Rng, kind: u32) -> u32 {
     match kind {
-        0 => 4 * rng.pick(&[0, 1, 1, 2, 3, 4, 5, 8, 9, 12, 16, 33]),
+        // Long enough for a number of two groups in a report.
+        0 if rng.chance(4) => 4 * rng.from_to(125, 260),
+        0 => 4 * rng.pick(&[0, 1, 1, 2, 3, 4, 5, 8, 9, 12, 16, 24, 32, 33]),
         _ if rng.chance(8) => 0,
         _ if rng.chance(75) => 4 * rng.from_to(1, 14),
         _ => rng.from_to(1, 50),
@@ -78,6 +80,11 @@ pub fn about(rng: &mut Rng, t: &Tables) -> u32 {
 fn bytes_of(rng: &mut Rng, t: &Tables, s: &Section) -> Vec<u8> {
     let style = rng.below(10);
     let mut out = Vec::new();
+    // Code that goes somewhere.
+    while s.kind == 0 && style < 6 && out.len() < s.length as usize {
+        let at = s.address.wrapping_add(out.len() as u32);
+        out.extend(idiom(rng, t, at).iter().flat_map(|w| w.to_be_bytes()));
+    }
     while out.len() < s.length as usize {
         let w = match (s.kind, style) {
             (0, _) => word(rng, t, s.address.wrapping_add(out.len() as u32)),
@@ -131,10 +138,10 @@ fn relocations(rng: &mut Rng, t: &mut Tables) {
                         address: s.address + at,
                         module,
                         kind: (last || !plain && rng.chance(20)) as u32,
-                        target: if rng.chance(if plain { 1 } else { 12 }) { numbers(rng) } else { to.elf },
+                        target: if rng.chance(if plain { 1 } else { 18 }) { numbers(rng) } else { to.elf },
                         // About the last address that a sum may give.
                         addend: match rng.below(12) {
-                            0 if !plain => (u32::MAX - to.address).wrapping_add(rng.below(3)),
+                            0 | 2 if !plain => (u32::MAX - to.address).wrapping_add(rng.below(3)),
                             1 if !plain => numbers(rng),
                             _ => rng.below(to.size.max(1)) & !3,
                         },

@@ -58,8 +58,8 @@ fn told_apart(rng: &mut Rng) -> Row {
         43..=54 => (19, Some(rng.pick(&[16, 528, 528, 528, 50]))),
         55..=57 => (rng.pick(&[10, 11]), None),
         58..=61 => (31, Some(rng.pick(&[0, 32]))),
-        62..=66 => (31, Some(rng.pick(&[339, 467]))),
-        67..=74 => (rng.pick(&[21, 23]), None),
+        62..=67 => (31, Some(rng.pick(&[339, 467]))),
+        68..=74 => (rng.pick(&[21, 23]), None),
         75..=78 => (31, Some(UNDER_31[rng.below(12) as usize].0)),
         79 | 80 => (31, Some(444)),
         81..=83 => (24, None),
@@ -123,7 +123,7 @@ pub fn word(rng: &mut Rng, t: &Tables, address: u32) -> u32 {
     let to = about(rng, t);
     match primary {
         16 | 18 => {
-            let absolute = rng.chance(20);
+            let absolute = rng.chance(28);
             let near = if absolute { to } else { to.wrapping_sub(address) };
             w = set(w, 30, 30, absolute as u32);
             w = set(w, 31, 31, rng.chance(25) as u32);
@@ -136,7 +136,7 @@ pub fn word(rng: &mut Rng, t: &Tables, address: u32) -> u32 {
         }
         19 if extended == 16 || extended == 528 => {
             w = set(w, 6, 10, rng.pick(&[20, 20, 20, 12, 4, 0, 16, 18, 10, 13]));
-            w = set(w, 31, 31, rng.chance(25) as u32);
+            w = set(w, 31, 31, rng.chance(35) as u32);
         }
         31 if extended == 339 || extended == 467 => {
             let spr = rng.pick(&[8, 8, 8, 9, 9, 9, 1, 264, 288, 256, 272]);
@@ -178,5 +178,50 @@ pub fn any_word(rng: &mut Rng) -> u32 {
             let row = rng.pick(&all);
             word_of(rng, row)
         }
+    }
+}
+
+/// Words of a short idiom: a table jump, a compare with a branch, a call, straight words.
+pub fn idiom(rng: &mut Rng, t: &Tables, address: u32) -> Vec<u32> {
+    let (x, y) = (rng.from_to(3, 12), rng.from_to(3, 12));
+    let d_form = |op: u32, d: u32, a: u32, n: u32| op << 26 | d << 21 | a << 16 | n & 0xffff;
+    let near = |rng: &mut Rng, at: u32| (about(rng, t) & !3).wrapping_sub(at);
+    match rng.below(10) {
+        0..=2 => {
+            // lis, addi, a scaled index, lwzx, mtctr, bctr
+            let tables: Vec<u32> =
+                t.sections.iter().filter(|s| s.kind == 1 || s.kind == 2).map(|s| s.address).collect();
+            let table = if tables.is_empty() { about(rng, t) } else { rng.pick(&tables) };
+            let lo = table & 0xffff;
+            let hi = (table >> 16).wrapping_add(lo >> 15);
+            let mut out = vec![d_form(15, x, 0, hi), d_form(14, x, x, lo)];
+            if rng.chance(70) {
+                let last = 30 - rng.from_to(1, 3);
+                out.push(21 << 26 | y << 21 | 2 << 11 | last << 6 | 29 << 1);
+            }
+            out.push(31 << 26 | 12 << 21 | x << 16 | 23 << 1);
+            out.push(31 << 26 | 12 << 21 | 9 << 16 | 467 << 1);
+            out.push(19 << 26 | rng.pick(&[20, 20, 20, 12]) << 21 | 528 << 1 | rng.chance(10) as u32);
+            out
+        }
+        3 | 4 => {
+            // cmplwi, bgt
+            let bo = rng.pick(&[12, 4]);
+            let to = near(rng, address.wrapping_add(4));
+            vec![d_form(10, 0, y, rng.below(9)), d_form(16, bo, rng.below(4), to & 0xfffc)]
+        }
+        5 => {
+            let to = near(rng, address);
+            vec![18 << 26 | to & 0x03ff_fffc | rng.chance(50) as u32]
+        }
+        6 => vec![rng.pick(&[0x4e80_0020, 0x4e80_0020, 0x4e80_0420, 0x4e80_0421])],
+        _ => (0..rng.from_to(1, 5))
+            .map(|_| match rng.below(4) {
+                0 => d_form(14, x, rng.below(2), numbers(rng)),
+                1 => 0x6000_0000,
+                2 => d_form(36, x, 1, 8),
+                _ => d_form(32, x, y, numbers(rng)),
+            })
+            .collect(),
     }
 }
