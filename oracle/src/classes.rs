@@ -9,7 +9,7 @@ use crate::{
         vm::{GprValue, VM},
     },
     answer::*,
-    image::{Image, NO_SYMBOL_SECTION, Tables},
+    image::{Image, NO_SYMBOL_SECTION, Section, Tables},
     make_word::row_of,
     obj::{ObjInfo, ObjKind},
     pieces::Words,
@@ -74,6 +74,25 @@ fn row_name(word: u32) -> String {
 fn image(out: &mut Classes, image: &Image) {
     if let Some(rule) = image.broken {
         put!(out, "image 1: {rule}");
+        // How close the last relocation came.
+        let Some(t) = Tables::from_words(&image.words) else { return };
+        let close = |out: &mut Classes, what: &str, kind: u32, address: u32, s: &Section| {
+            let end = s.address as u64 + s.size as u64;
+            match (kind, end.wrapping_sub(address as u64)) {
+                (0, 3) => put!(out, "image 1: {what}, Absolute with three bytes"),
+                (1, 0) => put!(out, "image 1: {what}, other at the end"),
+                _ if address < s.address => put!(out, "image 1: {what}, before its section"),
+                _ => {}
+            }
+        };
+        match (rule, t.bound.last(), t.unbound.last()) {
+            ("bound place", Some(r), _) => close(out, rule, r.kind, r.address, &t.sections[r.section as usize]),
+            ("unbound place", _, Some(r)) => {
+                let s = t.sections.iter().find(|s| s.elf == r.elf).unwrap();
+                close(out, rule, r.kind, r.address, s);
+            }
+            _ => {}
+        }
         return;
     }
     let t = Tables::from_words(&image.words).unwrap();
@@ -455,6 +474,9 @@ fn step(out: &mut Classes, image: &Image, place: SectionAddress, word: u32, vm: 
                 _ => "counting",
             };
             put!(out, "step {op:?} {way}");
+            if op == Opcode::Bc {
+                put!(out, "step Bc BO {bo:05b}");
+            }
             if way == "if false" || way == "if true" {
                 let (crf, crb) = (ins.field_bi() >> 2, ins.field_bi() & 3);
                 let cr = &vm.cr[crf as usize];
@@ -578,6 +600,17 @@ fn table(out: &mut Classes, image: &Image, p: &mut Words, answer: &[u32]) {
     };
     put!(out, "table {}, {by}", if size == 0 { "found no size" } else { "found size" });
     let way = if known > 0 { "sized" } else { "guessed" };
+    if let Some(y) = symbol
+        && y.size > 0
+        && size > 0
+        && answer[0] == 0
+    {
+        // Both cut to the section.
+        let left = (section.address + section.size - place.address as u64) as u32;
+        let (by_symbol, found) = (y.size.min(left), size.min(left));
+        let order = if by_symbol == found { "equal to" } else if by_symbol < found { "below" } else { "above" };
+        put!(out, "table read, known {}, symbol size {order} the found one", y.known);
+    }
     put!(out, "table {way} {kind}: {}", answer[0]);
     let section_end = section.address + section.size;
     if place.address % 4 != 0 {

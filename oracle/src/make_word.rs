@@ -130,7 +130,7 @@ pub fn word(rng: &mut Rng, t: &Tables, address: u32) -> u32 {
             if near & 3 == 0 && rng.chance(75) {
                 w = if primary == 16 { set(w, 16, 29, near >> 2) } else { set(w, 6, 29, near >> 2) };
             }
-            if primary == 16 {
+            if primary == 16 && rng.chance(80) {
                 w = set(w, 6, 10, rng.pick(&[20, 21, 28, 12, 13, 4, 5, 0, 2, 8, 10, 16, 18, 14, 6, 12, 4]));
             }
         }

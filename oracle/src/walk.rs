@@ -249,10 +249,14 @@ struct Counts {
     blocks: u64,
     read: u64,
     not_read: u64,
+    /// Of those not read, the External ones.
+    external: u64,
 }
 
 struct Walk<'a> {
     obj: &'a ObjInfo,
+    /// W
+    words: u64,
     slots: usize,
     start: SectionAddress,
     end: Option<SectionAddress>,
@@ -277,6 +281,7 @@ impl Walk<'_> {
             }
             BranchTarget::JumpTable { address: RelocationTarget::External, .. } => {
                 self.counts.not_read += !on(86) as u64;
+                self.counts.external += 1;
                 Some(())
             }
             BranchTarget::JumpTable { address: RelocationTarget::Address(table), size } => {
@@ -302,6 +307,8 @@ impl Walk<'_> {
         if data.block_start == data.ins_addr {
             self.counts.blocks += 1;
         }
+        // "Blocks begun never exceed W; steps never exceed W times W."
+        assert!(self.counts.blocks <= self.words && self.counts.steps <= self.words * self.words);
         let followed = match &data.result {
             StepResult::Continue | StepResult::LoadStore { .. } => return ExecCbResult::Continue,
             StepResult::Illegal => Some(()),
@@ -323,7 +330,9 @@ impl Walk<'_> {
     }
 }
 
-pub fn walk(current: &Image, p: &mut Words) -> Vec<u32> {
+pub fn walk(current: &Image, p: &mut Words) -> Vec<u32> { run_walk(current, p).0 }
+
+fn run_walk(current: &Image, p: &mut Words) -> (Vec<u32>, Counts) {
     let (slots, count, fill) = (p.one() as usize, p.one() as usize, p.one());
     let mut given = || {
         let there = p.one() == 1;
@@ -338,7 +347,7 @@ pub fn walk(current: &Image, p: &mut Words) -> Vec<u32> {
         let mut out = vec![number, 0, 0, 0, 0, 0, 0, 0, 0];
         out.extend(&map);
         out.push(0);
-        out
+        (out, Counts::default())
     };
     let Some(obj) = &current.obj else { return refuse(1) };
     if too_short(count, current.code_words) {
@@ -347,7 +356,7 @@ pub fn walk(current: &Image, p: &mut Words) -> Vec<u32> {
     if let Some(number) = starts.iter().map(|s| judge_place(obj, *s)).find(|n| *n != 0) {
         return refuse(number);
     }
-    let mut w = Walk { obj, slots, start, end, counts: Counts::default() };
+    let mut w = Walk { obj, words: current.code_words as u64, slots, start, end, counts: Counts::default() };
     let mut executor = Executor::new(obj);
     let fresh = VM::new_with_base(r2, r13);
     let mut pushed = starts.iter().try_for_each(|s| w.push(&mut executor, *s, &fresh));
@@ -363,7 +372,7 @@ pub fn walk(current: &Image, p: &mut Words) -> Vec<u32> {
     }
     put_map(&mut out, &executor, obj, map);
     put_stack(&mut out, &executor);
-    out
+    (out, w.counts)
 }
 
 macro_rules! put { ($out:expr, $($arg:tt)*) => { $out.push(format!($($arg)*)) } }
@@ -489,6 +498,9 @@ fn skip_result(a: &mut Words) {
 }
 
 pub fn walk_classes(out: &mut Vec<String>, current: &Image, p: &mut Words, answer: &[u32]) {
+    if run_walk(current, &mut Words::new(p.left)).1.external > 0 {
+        put!(out, "walk: an External table");
+    }
     let (slots, count, fill) = (p.one(), p.one(), p.one());
     let (r2, _, r13, _) = (p.one(), p.one(), p.one(), p.one());
     p.place();
