@@ -93,6 +93,7 @@ fn image(out: &mut Classes, image: &Image) {
             }
             _ => {}
         }
+        refused(out, &t, rule, image.data.len() as u64);
         return;
     }
     let t = Tables::from_words(&image.words).unwrap();
@@ -154,6 +155,62 @@ fn image(out: &mut Classes, image: &Image) {
     }
     out.sort();
     out.dedup();
+}
+
+/// By how much a rule on sections or on order is broken.
+fn refused(out: &mut Classes, t: &Tables, rule: &str, buffer: u64) {
+    let end = |s: &Section| s.address as u64 + s.size as u64;
+    let order = |a: (u32, u32), b: (u32, u32)| match a.cmp(&b) {
+        std::cmp::Ordering::Less => None,
+        std::cmp::Ordering::Equal => Some("equal"),
+        std::cmp::Ordering::Greater if a.0 > b.0 => Some("descending by section"),
+        std::cmp::Ordering::Greater => Some("descending"),
+    };
+    let first = |found: Option<&'static str>| found.unwrap_or("otherwise");
+    match rule {
+        "section end" => {
+            let s = t.sections.iter().find(|s| end(s) >= 1 << 32);
+            let how = s.map(|s| match (end(s), s.size) {
+                (0x1_0000_0000, 0) => "2^32, empty",
+                (0x1_0000_0000, _) => "2^32",
+                _ => "more",
+            });
+            put!(out, "image 1: {rule} {}", first(how));
+        }
+        "buffer" => {
+            let s = t.sections.iter().find(|s| s.place as u64 + s.length as u64 > buffer);
+            let how = s.map(|s| {
+                let by_one = s.place as u64 + s.length as u64 == buffer + 1;
+                let what = if s.kind == 3 { "Bss" } else if s.length == 0 { "empty" } else { "data" };
+                format!("{what}, {}", if by_one { "by one" } else { "by more" })
+            });
+            put!(out, "image 1: {rule} {}", how.unwrap_or_default());
+        }
+        "data length" => {
+            let s = t.sections.iter().find(|s| s.length != if s.kind == 3 { 0 } else { s.size });
+            let how = s.map(|s| if s.kind == 3 { "Bss" } else if s.length < s.size { "shorter" } else { "longer" });
+            put!(out, "image 1: {rule} {}", first(how));
+        }
+        "overlap" => {
+            let apart = |a: &Section, b: &Section| a.size == 0 || b.size == 0 || end(a) <= b.address as u64 || end(b) <= a.address as u64;
+            for (i, a) in t.sections.iter().enumerate() {
+                for b in t.sections[..i].iter().filter(|b| !apart(a, b)) {
+                    let by = end(a).min(end(b)) - a.address.max(b.address) as u64;
+                    put!(out, "image 1: overlap, Bss before {}, after {}", b.kind == 3, a.kind == 3);
+                    put!(out, "image 1: overlap by {}", if by == 1 { "a byte" } else { "more" });
+                }
+            }
+        }
+        "bound order" => {
+            let how = t.bound.windows(2).find_map(|w| order((w[0].section, w[0].address), (w[1].section, w[1].address)));
+            put!(out, "image 1: {rule} {}", first(how));
+        }
+        "symbol order" => {
+            let how = t.symbols.windows(2).find_map(|w| order((w[0].section, w[0].address), (w[1].section, w[1].address)));
+            put!(out, "image 1: {rule} {}", first(how));
+        }
+        _ => {}
+    }
 }
 
 fn branch(out: &mut Classes, p: &mut Words, answer: &[u32]) {
@@ -289,6 +346,12 @@ fn lookup(out: &mut Classes, image: &Image, p: &mut Words, answer: &[u32]) {
             if answer[2] == 0 && code_before > 0 {
                 put!(out, "lookup bit: after another section");
             }
+            let other = obj.sections.iter().any(|(i, s)| {
+                i < place.section && s.size >= 4 && s.kind != crate::obj::ObjSectionKind::Code
+            });
+            if answer[2] == 0 && other {
+                put!(out, "lookup bit: after a section that is no Code");
+            }
         }
     }
 }
@@ -406,12 +469,19 @@ fn step(out: &mut Classes, image: &Image, place: SectionAddress, word: u32, vm: 
             put!(out, "step ori relocation {reloc}");
             if reloc == "none" {
                 put!(out, "step ori {}", kind_of(gpr(d).value));
+                if known(gpr(d).value) == "Constant" {
+                    put!(out, "step ori of a Constant, top bit {}", ins.field_uimm() >> 15);
+                }
             }
             put!(out, "step ori older lo {}", gpr(d).lo_addr.is_some());
         }
         Opcode::Or => {
             if d == b {
-                put!(out, "step or copy, places {}", gpr(d).hi_addr.is_some() || gpr(d).lo_addr.is_some());
+                {
+                    let other = if d == a { "itself" } else { "another" };
+                    put!(out, "step or copy into {other}, hi {}", gpr(d).hi_addr.is_some());
+                    put!(out, "step or copy into {other}, lo {}", gpr(d).lo_addr.is_some());
+                }
             } else {
                 put!(out, "step or {} {}", known(gpr(d).value), known(gpr(b).value));
             }
@@ -508,6 +578,7 @@ fn step(out: &mut Classes, image: &Image, place: SectionAddress, word: u32, vm: 
             let right = match gpr(b).value {
                 GprValue::Range { max: 0, .. } => "max 0",
                 GprValue::Range { max, .. } if max % 4 != 0 && max < 0xffff_fffb => "max ragged",
+                GprValue::Range { max: 0xffff_fffc, .. } => "max too great, a multiple of 4",
                 GprValue::Range { max, .. } if max >= 0xffff_fffb => "max too great",
                 GprValue::Range { max: 0xffff_fff8, .. } => "max greatest",
                 GprValue::Range { .. } => "max",
@@ -588,6 +659,9 @@ fn table(out: &mut Classes, image: &Image, p: &mut Words, answer: &[u32]) {
         let ragged = size % 4 != 0;
         put!(out, "table outside: {:?}, holds {}", section.kind, section.contains(place.address));
         put!(out, "table outside: ragged {ragged}");
+        if section.contains(place.address) {
+            put!(out, "table outside: in {:?}, {}", section.kind, if size > 0 && !ragged { "sized" } else { "guessed or ragged" });
+        }
         return;
     }
     let t = Tables::from_words(&image.words).unwrap();
@@ -596,6 +670,9 @@ fn table(out: &mut Classes, image: &Image, p: &mut Words, answer: &[u32]) {
         Some(y) if y.known == 1 && y.size > 0 => (y.size, "symbol"),
         Some(y) if y.known == 1 => (size, "symbol of size 0"),
         Some(_) => (size, "symbol of size not known"),
+        None if t.symbols.iter().any(|y| y.address == place.address && y.known == 1 && y.size > 0) => {
+            (size, "a symbol of another section only")
+        }
         None => (size, "no symbol"),
     };
     put!(out, "table {}, {by}", if size == 0 { "found no size" } else { "found size" });
@@ -716,6 +793,9 @@ fn table(out: &mut Classes, image: &Image, p: &mut Words, answer: &[u32]) {
             }
             if to == start {
                 put!(out, "table guessed: at the start");
+            }
+            if how == "none" && to.address == 0 {
+                put!(out, "table guessed: bare entry 0 taken");
             }
         }
         at += 4;

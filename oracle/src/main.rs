@@ -20,6 +20,8 @@ mod make;
 mod make_image;
 mod make_word;
 mod obj;
+#[cfg(test)]
+mod paper;
 mod pieces;
 mod report;
 mod rng;
@@ -35,7 +37,7 @@ const ENOUGH: u64 = 100_000;
 
 const USAGE: &str = "\
 oracle make SEED COUNT CASES ANSWERS    cases from a seed, with the oracle's answers; counts of classes go to stderr
-oracle sample SEED COUNT CASES ANSWERS  out of COUNT cases those that reach a class the first times, without giants
+oracle sample SEED COUNT CASES ANSWERS  out of COUNT cases those that reach a class first, without the largest
 oracle answer CASES ANSWERS             answers to an existing file of cases
 oracle show CASES N                     case N (from 0), readable, with the oracle's answer
 oracle planted CASES ANSWERS            (built with the feature planted) each wrong version against the right answers
@@ -108,7 +110,7 @@ fn read_cases(path: &str) -> Vec<Record> {
 }
 
 /// Makes cases and answers them, in order.
-fn run(seed: u64, count: u64, kinds: u32, giants: bool, mut each: impl FnMut(&Image, &Record, &[u32])) {
+fn run(seed: u64, count: u64, kinds: u32, giants: u32, mut each: impl FnMut(&Image, &Record, &[u32])) {
     let mut rng = Rng::new(seed);
     let mut current = Image::default();
     let (mut made, mut number) = (0, 0);
@@ -161,17 +163,17 @@ fn needs_kind(class: &str) -> u32 {
     }
 }
 
-/// What only images of many words reach.
+/// What only large images reach: a sample has none of them but those with all code words, which share their bytes.
 fn needs_giant(class: &str) -> bool {
     ["4096 bound", "4096 unbound", "4097 bound", "4097 unbound", "4096 symbols", "4097 symbols"]
         .iter()
         .any(|c| class.ends_with(c))
-        || class.ends_with("code words") && class.starts_with("image")
+        || class.contains("1,024")
 }
 
 fn make_cases(seed: u64, count: u64, kinds: u32, cases: &str, answers: &str) {
     let (mut bytes, mut text, mut stats) = (Vec::new(), String::new(), Stats::default());
-    run(seed, count, kinds, true, |current, record, words| {
+    run(seed, count, kinds, make_image::GIANTS, |current, record, words| {
         put_record(&mut bytes, record);
         text.push_str(&line(words));
         stats.add(current, record, words);
@@ -198,7 +200,7 @@ fn sample(seed: u64, count: u64, kinds: u32, cases: &str, answers: &str) {
     for most in [60, 120, 200, 400, usize::MAX] {
         let mut image: Option<(Record, Vec<u32>)> = None;
         let mut small = false;
-        run(seed, count, kinds, false, |current, record, words| {
+        run(seed, count, kinds, 2, |current, record, words| {
             if record.kind == IMAGE {
                 small = record.payload.len() <= most;
                 image = Some((record.clone(), words.to_vec()));

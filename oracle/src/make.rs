@@ -26,14 +26,15 @@ pub struct Ground {
     pub giant: bool,
 }
 
-/// A group of records; the first is the image. Kinds go up to `highest`.
-pub fn group(rng: &mut Rng, number: u64, giants: bool, highest: u32) -> Vec<Record> {
+/// A group of records; the first is the image. Kinds go up to `highest`; of the giants the first `giants` are made.
+pub fn group(rng: &mut Rng, number: u64, giants: u32, highest: u32) -> Vec<Record> {
     let (mut made, mut giant_one) = (None, false);
     match rng.below(100) {
-        _ if giants && number % 50 == 7 => {
+        _ if number % 50 == 7 => {
             // In turn; the one with a mebibyte of data only now and then.
             let turn = (number / 50) as u32;
-            let which = if turn % 40 == 39 { GIANTS - 1 } else { turn % (GIANTS - 1) };
+            let last = giants == GIANTS && turn % 40 == 39;
+            let which = if last { GIANTS - 1 } else { turn % giants.min(GIANTS - 1) };
             made = Some(giant(rng, which));
             giant_one = true;
         }
@@ -67,9 +68,12 @@ pub fn group(rng: &mut Rng, number: u64, giants: bool, highest: u32) -> Vec<Reco
     } else {
         rng.from_to(15, 45)
     };
+    if giant_one && great_table(&ground) && highest >= WALK {
+        out.extend([walk(rng, &ground), walk(rng, &ground), walk(rng, &ground)]);
+    }
     for _ in 0..count {
         let upper = rng.below(100);
-        if upper < 14 && highest > TABLE && (!giant_one || upper == 0) {
+        if upper < 14 && highest > TABLE && (ground.image.code_words < 5000 || upper == 0) {
             let kind = rng.pick(&[SCRIPT, SCRIPT, WALK, WALK, WALK, WRITE, READ]).min(highest);
             out.push(match kind {
                 SCRIPT => script(rng, &ground),
@@ -475,6 +479,11 @@ fn table(rng: &mut Rng, g: &Ground) -> Record {
             SectionAddress::new(y.section, y.address)
         }
         9 | 10 => data,
+        _ if g.giant && rng.chance(60) => {
+            // At or about the first 1,024 entries of the one great table.
+            let at = t.sections[0].address + 4 * rng.pick(&[0, 75, 76, 77]);
+            SectionAddress::new(0, at)
+        }
         _ => match t.sections.get(data.section as usize) {
             Some(s) if s.size >= 4 => SectionAddress::new(data.section, s.address + 4 * rng.below(s.size / 4)),
             _ => data,
@@ -664,6 +673,9 @@ fn script(rng: &mut Rng, g: &Ground) -> Record {
     Record { kind: SCRIPT, payload: with(&ops, count) }
 }
 
+/// Is this the giant with code that jumps by a great table?
+fn great_table(g: &Ground) -> bool { g.t.sections.len() == 2 && g.t.sections[1].address == 0x2000 }
+
 fn walk(rng: &mut Rng, g: &Ground) -> Record {
     let words = map(rng, g).len() as u32;
     let fill = match rng.below(3) {
@@ -689,6 +701,7 @@ fn walk(rng: &mut Rng, g: &Ground) -> Record {
     payload.push(count);
     for _ in 0..count {
         let place = match rng.below(20) {
+            _ if g.giant && great_table(g) => Some(SectionAddress::new(1, 0x2000 + 20 * rng.below(2))),
             0 => None,
             1 => Some(place_in(rng, g, |k| k == 0)),
             2 => Some(any_place(rng, g)),

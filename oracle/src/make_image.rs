@@ -287,7 +287,7 @@ fn probe(t: &mut Tables, data: &mut Vec<u8>, kind: u32, size: u32) -> usize {
     i
 }
 
-pub const EDGES: u32 = 40;
+pub const EDGES: u32 = 42;
 
 /// An image whose rule number `edge` stands at, below or above its bound; all other rules hold.
 pub fn at_edge(rng: &mut Rng, edge: u32) -> Made {
@@ -395,11 +395,11 @@ pub fn at_edge(rng: &mut Rng, edge: u32) -> Made {
                 t.sections.swap(a, b);
             }
         }
-        22 => {
+        22 | 40 | 41 => {
             // The order of the bound table.
             let i = probe(&mut t, &mut data, rng.below(4), 16);
             t.bound.clear();
-            let step = rng.pick(&[1, 0, u32::MAX]);
+            let step = rng.pick(&[1, 0, 0, u32::MAX]);
             let address = t.sections[i].address + 4;
             for k in 0..2u32 {
                 let address = address.wrapping_add(step.wrapping_mul(k));
@@ -490,8 +490,8 @@ pub fn at_edge(rng: &mut Rng, edge: u32) -> Made {
                 let address = 100u32.wrapping_add(step.wrapping_mul(k));
                 t.symbols.push(Symbol { section: 0, address, size: k, known: 1 });
             }
-            if rng.chance(30) {
-                t.symbols[1].section = n - 1;
+            if rng.chance(40) {
+                t.symbols[rng.below(2) as usize].section = n - 1;
             }
         }
         36 => data.clear(),
@@ -564,13 +564,23 @@ pub fn giant(rng: &mut Rng, which: u32) -> Made {
             }
         }
         8 => {
-            // A table of more than 1,024 distinct entries, and one of exactly that many in its first half.
+            // A table of 1,100 distinct entries, the last 1,024 of them a table too; code that jumps by each.
             t.kind = 0;
-            let words = 1100;
+            let words = 1100u32;
             t.sections.push(Section { address: 0x8000, size: 4 * words, kind: 1, elf: 1, place: 0, length: 4 * words });
-            t.sections.push(code(0x2000, 1100, 2));
+            t.sections.push(Section { place: 4 * words, ..code(0x2000, words, 2) });
             for i in 0..words {
-                data.extend((0x2000 + 4 * ((i * 7) % 1100)).to_be_bytes());
+                data.extend((0x2000 + 4 * ((i * 7) % words)).to_be_bytes());
+            }
+            for table in [0x8000u32, 0x8000 + 4 * (words - 1024)] {
+                // lis, addi, lwzx, mtctr, bctr
+                let lo = table & 0xffff;
+                for w in [0x3c60_0001, 0x3863_0000 | lo, 0x7d83_002e, 0x7d89_03a6, 0x4e80_0420] {
+                    data.extend(u32::to_be_bytes(w));
+                }
+            }
+            while data.len() < 8 * words as usize {
+                data.extend(0x4e80_0020u32.to_be_bytes());
             }
         }
         _ => {

@@ -163,13 +163,13 @@ pub fn write_classes(out: &mut Vec<String>, current: &Image, p: &mut Words, answ
 }
 
 /// Why bytes are no report: written again here, apart from the reader, to name what is wrong.
-fn fault(obj: &ObjInfo, bytes: &[u8], touching: bool) -> &'static str {
+fn fault(obj: &ObjInfo, bytes: &[u8], touching: bool, longer: bool) -> &'static str {
     let mut left = bytes;
-    fn number(left: &mut &[u8]) -> Result<u32, &'static str> {
+    let number = |left: &mut &[u8]| -> Result<u32, &'static str> {
         let end = left.iter().position(|b| b & 0x80 == 0).ok_or("cut inside a number or before one")?;
         let (groups, rest) = left.split_at(end + 1);
         *left = rest;
-        if end > 0 && groups[end] == 0 {
+        if end > 0 && groups[end] == 0 && !longer {
             return Err("a number not in shortest form");
         }
         let big = groups.len() > 5 || groups.len() == 5 && groups[4] > 15;
@@ -177,7 +177,7 @@ fn fault(obj: &ObjInfo, bytes: &[u8], touching: bool) -> &'static str {
             return Err("a number of 2^32 or more");
         }
         Ok(groups.iter().rev().fold(0, |n, g| n << 7 | (g & 0x7f) as u32))
-    }
+    };
     let mut judge = || -> Result<(), &'static str> {
         if number(&mut left)? != 1 {
             return Err("version");
@@ -219,13 +219,16 @@ pub fn read_classes(out: &mut Vec<String>, current: &Image, p: &mut Words, answe
     p.many(count);
     let bytes = p.bytes();
     if answer[0] == 13 {
-        put!(out, "report read: 13, {}", fault(obj, &bytes, false));
-        if fault(obj, &bytes, true) == "none" {
+        put!(out, "report read: 13, {}", fault(obj, &bytes, false, false));
+        if fault(obj, &bytes, true, false) == "none" {
             put!(out, "report read: 13, by touching runs alone");
+        }
+        if fault(obj, &bytes, false, true) == "none" {
+            put!(out, "report read: 13, by a longer form alone");
         }
     }
     if answer[0] == 0 {
         put!(out, "report read: {}", if count as u32 * 32 > current.code_words { "bits past W" } else { "bits exact" });
-        assert!(fault(obj, &bytes, false) == "none" || cfg!(feature = "planted"));
+        assert!(fault(obj, &bytes, false, false) == "none" || cfg!(feature = "planted"));
     }
 }

@@ -249,8 +249,11 @@ struct Counts {
     blocks: u64,
     read: u64,
     not_read: u64,
-    /// Of those not read, the External ones.
+    /// Of those not read, the External ones; and states pushed for linked branches.
     external: u64,
+    linked: u64,
+    /// The most distinct entries of a table.
+    entries: usize,
 }
 
 struct Walk<'a> {
@@ -285,8 +288,10 @@ impl Walk<'_> {
                 Some(())
             }
             BranchTarget::JumpTable { address: RelocationTarget::Address(table), size } => {
-                match entries(self.obj, *table, *size, self.start, self.end) {
-                    Ok((found, _)) if found.len() <= TABLE_ENTRIES && !(on(87) && found.is_empty()) => {
+                let read = entries(self.obj, *table, *size, self.start, self.end);
+                self.counts.entries = read.iter().map(|r| r.0.len()).fold(self.counts.entries, usize::max);
+                match read {
+                    Ok((found, _)) if found.len() + on(91) as usize <= TABLE_ENTRIES + on(92) as usize * 999 && !(on(87) && found.is_empty()) => {
                         self.counts.read += 1;
                         for place in found {
                             if judge_place(self.obj, place) == 0 {
@@ -322,7 +327,10 @@ impl Walk<'_> {
                 if on(77) && b.link {
                     return Some(());
                 }
-                self.follow(data.executor, &b.target, &b.vm)
+                let held = data.executor.vm_stack.len();
+                self.follow(data.executor, &b.target, &b.vm)?;
+                self.counts.linked += (b.link && data.executor.vm_stack.len() > held) as u64;
+                Some(())
             }),
         };
         // End carries 5 out.
@@ -498,8 +506,15 @@ fn skip_result(a: &mut Words) {
 }
 
 pub fn walk_classes(out: &mut Vec<String>, current: &Image, p: &mut Words, answer: &[u32]) {
-    if run_walk(current, &mut Words::new(p.left)).1.external > 0 {
+    let counts = run_walk(current, &mut Words::new(p.left)).1;
+    if counts.external > 0 {
         put!(out, "walk: an External table");
+    }
+    if counts.entries >= TABLE_ENTRIES {
+        put!(out, "walk: a table of {} entries", if counts.entries == TABLE_ENTRIES { "1,024" } else { "more than 1,024" });
+    }
+    if counts.linked > 0 {
+        put!(out, "walk: a linked target pushed");
     }
     let (slots, count, fill) = (p.one(), p.one(), p.one());
     let (r2, _, r13, _) = (p.one(), p.one(), p.one(), p.one());
