@@ -29,7 +29,9 @@ fn main() {
         });
         texts.push(text);
     }
+    let vm = texts[0].clone();
     apply(&here.join("patches"), &mut texts);
+    assert!(texts[0] == vm, "vm.rs is taken as it is");
     if env::var("CARGO_FEATURE_PLANTED").is_ok() {
         apply(&here.join("plants"), &mut texts);
     }
