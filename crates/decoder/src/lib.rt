@@ -1,6 +1,7 @@
 // The decoder: which operation a word is, which general registers it writes, and where a branch goes.
 // No public function has a `requires`; each result is a definition of specs/, for all 2^32 words.
 ghost use mathlib.Core.Path.{_≡_};
+ghost use Rattle.decoder.specs.Ops.{numberOf};
 ghost use Rattle.decoder.specs.Decode.{decoded, displacementOf, branchDest};
 ghost use Rattle.decoder.specs.Written.{setBy, writtenSet, lowestOf};
 
@@ -85,6 +86,13 @@ pub fn decode(w: u32) -> Decoded
     let op = table::op_named(e % 64);
     let writes = table::kind_named(e / 64);
     Decoded { op, writes }
+}
+
+// The number of the word's operation in the order of `Op`, for programs that print or compare it.
+pub fn op_number(w: u32) -> u32
+    ensures { λ r. ⌜ r ≡ numberOf (decoded w .op) ⌝ }
+{
+    (table::entry_of(w) % 64) as u32
 }
 
 // The registers that a word of this kind writes, as a set: register r is in it where the bit of
