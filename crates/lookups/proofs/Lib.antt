@@ -6,3 +6,4 @@ pub mod Within
 pub mod Stride
 pub mod Halves
 pub mod Corners
+pub mod Targets

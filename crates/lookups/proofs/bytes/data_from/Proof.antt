@@ -45,7 +45,7 @@ returns : tie.Need-returns
 returns c =
     let e = sym (c .before .before .before .before .has-data .ensures) ∙ c .before .before .before .if1 .taken in
     let f = c .bytes-from .ensures in
-    (f .0 ∙ rw (c .before .section .ensures, e), (f .1 .0, f .1 .1 ∙ rw (c .before .section .ensures, e)))
+    (rw (f .0, c .before .section .ensures, e), (f .1 .0, rw (f .1 .1, c .before .section .ensures, e)))
 
 -- src/bytes.rt:18:1
 returns-2 : tie.Need-returns-2
