@@ -7,3 +7,4 @@ pub mod Stride
 pub mod Halves
 pub mod Corners
 pub mod Targets
+pub mod Cases
