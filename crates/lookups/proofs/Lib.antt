@@ -1,5 +1,4 @@
--- Laws of the lookups: what sound tables give, places in ascending order, and document 01's corners.
-pub mod SoundTables
+-- Laws of the lookups: what sound sections give, places in ascending order, and document 01's corners.
 pub mod SoundSections
 pub mod WordNumbers
 pub mod Within

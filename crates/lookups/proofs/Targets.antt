@@ -30,7 +30,7 @@ use Rattle.lookups.specs.declared.Relocation.{Relocation}
 use Rattle.lookups.specs.declared.Relocation.the-variants.{Nothing, Error, To}
 use Rattle.lookups.specs.Sections.{held, atAddress}
 use Rattle.lookups.specs.Relocations.{differs, boundHere, boundIndex, boundTarget, unboundIndex, unboundTarget, intoSection, relocationFor, known, targetAt, onTarget, placeIn, bareAddress, sectionAddressFor}
-use Rattle.lookups.proofs.SoundTables.{SoundTables, sound-tables}
+use Rattle.image.proofs.SoundTables.{SoundTables, sound-tables}
 
 -- an address, by the section that it names
 named : (ws : List ℕ) (i a : ℕ) (q : SectionAddress) → i < sections ws → To (Address (record { section = i; address = a })) ≡ To (Address q) → q .section < sections ws

@@ -14,6 +14,7 @@ use vm::VM;
 
 // The classes, and the bytes of a record: its class, the word, the registers before and after it.
 const CLASSES: usize = 25;
+
 const RECORD: usize = 264;
 
 // The image that the words run in: Executable, one Code section of one word at 4096.
@@ -82,7 +83,13 @@ fn is_alike(s: &[u8], at: usize) -> bool
         section: 0,
         address: 4096,
     };
-    let t = step::step(&IMAGE, &s[at + 4..at + 8], place, words::bytes::four(s, at + 4), before(s, at));
+    let t = step::step(
+        &IMAGE,
+        &s[at + 4..at + 8],
+        place,
+        words::bytes::four(s, at + 4),
+        before(s, at),
+    );
     let on = goes_on(t.result);
     on & is_after(t.vm, s, at)
 }

@@ -1,4 +1,4 @@
-use Rattle.lookups.proofs.SoundTables.{sound-tables}
+use Rattle.image.proofs.SoundTables.{sound-tables}
 use Rattle.lookups.proofs.SoundSections.{has-data}
 use lib.ListN.{length}
 use mathlib.Core.Path.{refl, sym, _∙_}

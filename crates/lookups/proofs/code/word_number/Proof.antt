@@ -1,13 +1,13 @@
 use Rattle.lookups.proofs.WordNumbers.{word-number-below}
 use Rattle.lookups.proofs.SoundSections.{in-code}
-use Rattle.lookups.proofs.SoundTables.{sound-tables}
+use Rattle.image.proofs.SoundTables.{sound-tables}
 use native.Mathlib.Omega.{arith}
 use borrow.Author.Needs.{needs}
 use Rattle.lookups.proofs.code.word_number.Statement.{statement}
 use Rattle.lookups.proofs.code.word_number.Tie as tie
 use Rattle.lookups.proofs.code.word_number.Reads as reads
 use Rattle.lookups.proofs.code.word_number.Lts as lts
-use Rattle.lookups.proofs.code.words_before.Reads as words-before-reads
+use Rattle.image.proofs.code.words_before.Reads as words-before-reads
 
 -- src/code.rt:52:13
 cast-i : tie.Need-cast-i
@@ -19,7 +19,7 @@ words-before-requires c κs =
     let a = c .before .before .args in
     let s = sound-tables (a .im .now) (c .before .before .pre .0) in
     let k = in-code (a .im .now) (a .at) (c .before .before .pre .0) (c .before .before .pre .1) in
-    (omega arith, omega arith)
+    (s .laid, omega arith)
 
 -- src/code.rt:54:19
 mul-from : tie.Need-mul-from

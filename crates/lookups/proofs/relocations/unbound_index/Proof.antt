@@ -1,7 +1,7 @@
 use Rattle.lookups.specs.Relocations.{unboundHere}
 use Rattle.search.specs.First.{first}
 use mathlib.Core.Path.{ap, _∙_}
-use Rattle.lookups.proofs.SoundTables.{sound-tables}
+use Rattle.image.proofs.SoundTables.{sound-tables}
 use native.Mathlib.Omega.{arith}
 use borrow.Author.Needs.{needs}
 use Rattle.lookups.proofs.relocations.unbound_index.Statement.{statement}

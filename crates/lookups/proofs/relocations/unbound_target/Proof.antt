@@ -3,7 +3,7 @@ use Rattle.image.specs.Layout.{sections}
 use Rattle.search.proofs.FirstMatch.{first-below}
 use borrow.Author.Tests.{eq-eqb, ne-eqb}
 use mathlib.Core.Path.{sym, _∙_}
-use Rattle.lookups.proofs.SoundTables.{sound-tables}
+use Rattle.image.proofs.SoundTables.{sound-tables}
 use native.Mathlib.Omega.{arith}
 use borrow.Author.Needs.{needs}
 use Rattle.lookups.proofs.relocations.unbound_target.Statement.{statement}

@@ -2,7 +2,7 @@ use Rattle.lookups.specs.Relocations.{unboundHere}
 use Rattle.image.specs.Layout.{unbounds}
 use Rattle.search.proofs.FirstMatch.{first-below}
 use mathlib.Core.Path.{sym, _∙_}
-use Rattle.lookups.proofs.SoundTables.{sound-tables}
+use Rattle.image.proofs.SoundTables.{sound-tables}
 use native.Mathlib.Omega.{arith}
 use borrow.Author.Needs.{needs}
 use Rattle.lookups.proofs.relocations.unbound_target_for.Statement.{statement}

@@ -4,7 +4,7 @@ use Rattle.image.specs.Layout.{symbols}
 use Rattle.search.proofs.FirstMatch.{first-below}
 use borrow.Author.Tests.{eq-eqb, ne-eqb}
 use mathlib.Core.Path.{sym, ap, _∙_}
-use Rattle.lookups.proofs.SoundTables.{sound-tables}
+use Rattle.image.proofs.SoundTables.{sound-tables}
 use native.Mathlib.Omega.{arith}
 use borrow.Author.Needs.{needs}
 use Rattle.lookups.proofs.sorted.known_size.Statement.{statement}

@@ -1,4 +1,4 @@
-use Rattle.lookups.proofs.SoundTables.{sound-tables}
+use Rattle.image.proofs.SoundTables.{sound-tables}
 use native.Mathlib.Omega.{arith}
 use borrow.Author.Needs.{needs}
 use Rattle.lookups.proofs.sorted.symbol_index.Statement.{statement}
