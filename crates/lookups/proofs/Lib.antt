@@ -2,7 +2,7 @@
 pub mod SoundSections
 pub mod WordNumbers
 pub mod Within
-pub mod Stride
+pub mod PlaceKeys
 pub mod Halves
 pub mod Corners
 pub mod Targets

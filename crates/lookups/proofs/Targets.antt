@@ -1,6 +1,6 @@
 -- Whatever a lookup points to lies in a section that exists.
 -- Assumes nothing.
-use mathlib.Core.Path.{_≡_, refl, sym, ap, _∙_}
+use mathlib.Core.Path.{_≡_, refl, _∙_}
 use mathlib.Core.Bool.{Bool, true, false, _&&_, _||_}
 use mathlib.Core.List.{List}
 use Prim.Native.Nat.{ℕ, _+_, _^_, _<_}
@@ -10,7 +10,6 @@ use lib.Dec.{ltb, eqb}
 use Rattle.words.specs.Choice.{pick}
 use Rattle.words.specs.Sums.{sum}
 use Rattle.places.specs.declared.SectionAddress.{SectionAddress}
-use Rattle.places.specs.declared.RelocationTarget.{RelocationTarget}
 use Rattle.places.specs.declared.RelocationTarget.the-variants.{External, Address}
 use Rattle.places.specs.declared.MaybeTarget.{MaybeTarget}
 use Rattle.places.specs.declared.MaybeTarget.the-variants.{Missing, Known}

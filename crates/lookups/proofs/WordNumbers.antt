@@ -9,7 +9,7 @@ use native.Mathlib.Decide.{decLt}
 use native.Mathlib.Omega.{arith}
 use Rattle.places.specs.declared.SectionAddress.{SectionAddress}
 use Rattle.image.specs.Layout.{sections, sectionAt}
-use Rattle.image.specs.Rules.{endOf, wordsOf, wordsBefore, codeWords, tablesSound}
+use Rattle.image.specs.Rules.{wordsOf, wordsBefore, codeWords, tablesSound}
 use Rattle.lookups.specs.Code.{inCode, wordNumber}
 use Rattle.lookups.proofs.SoundSections.{InCode, in-code}
 
