@@ -36,8 +36,7 @@ fine-place ws p e =
 pub code-has-data : (ws : List ℕ) (p : SectionAddress) → InCode ws p → hasData ws p ≡ true
 code-has-data ws p c =
     let s = sectionAt ws (p .section) in
-    let kind : s .kind ≡ 0 = eqb-true _ _ (c .code) in
-    let no-bss : s .kind ≡ 3 → ⊥ = λ e. omega arith in
+    let no-bss : s .kind ≡ 3 → ⊥ = λ e. omega (arith, c .code) in
     rw (lt-ltb (p .section) (sections ws) (c .place .exists), ne-eqb (s .kind) 3 no-bss, le-leb (s .address) (p .address) (c .place .from), lt-ltb (p .address) (endOf s) (c .place .upto))
 
 -- what a fine place has: data, and room for four bytes before its section's end
