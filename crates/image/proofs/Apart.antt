@@ -36,10 +36,11 @@ apart-none-shared s t e a h k =
 -- no address is in both: apart
 pub none-shared-apart : (s t : Section) → ((a : ℕ) → holds s a ≡ true → holds t a ≡ true → ⊥) → apart s t ≡ true
 none-shared-apart s t f =
-    elim (decLt (max (s .address) (t .address)) (min (s .address + s .size) (t .address + t .size)))
-    [ yes l ↦
-        let a = max (s .address) (t .address) in
-        absurd (f a (holds-by s a (record { from = omega arith; to = omega arith })) (holds-by t a (record { from = omega arith; to = omega arith })))
-    | no l ↦
-        let k : min (s .address + s .size) (t .address + t .size) ≤ max (s .address) (t .address) = omega arith in
-        le-leb _ _ k ]
+    elim (decLt (max (s .address) (t .address)) (min (s .address + s .size) (t .address + t .size))) [
+      | yes l ↦
+          let a = max (s .address) (t .address) in
+          absurd (f a (holds-by s a (record { from = omega arith; to = omega arith })) (holds-by t a (record { from = omega arith; to = omega arith })))
+      | no l ↦
+          let k : min (s .address + s .size) (t .address + t .size) ≤ max (s .address) (t .address) = omega arith in
+          le-leb _ _ k
+    ]

@@ -46,9 +46,10 @@ words-ahead ws i (suc k) l = at-or-past ws i k l (λ d. words-ahead ws i k d) (d
 -- so the count grows with the section's number
 pub words-grow : (ws : List ℕ) (i k : ℕ) → i ≤ k → wordsBefore ws i ≤ wordsBefore ws k
 words-grow ws i k l =
-    elim (decLt i k)
-    [ yes d ↦ omega (arith, words-ahead ws i k d)
-    | no d ↦ let e : i ≡ k = omega arith in omega (arith, ap (wordsBefore ws) e) ]
+    elim (decLt i k) [
+      | yes d ↦ omega (arith, words-ahead ws i k d)
+      | no d ↦ let e : i ≡ k = omega arith in omega (arith, ap (wordsBefore ws) e)
+    ]
 
 -- W is at most its limit, and so is every count before it
 pub words-few : (ws : List ℕ) → SoundTables ws → (i : ℕ) → i ≤ sections ws → wordsBefore ws i ≤ maxCodeWords

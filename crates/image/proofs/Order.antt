@@ -22,24 +22,26 @@ pub record Precedes (a b : SectionAddress) : Type 0 where
 
 pub before-says : (a b : SectionAddress) → before a b ≡ true → Precedes a b
 before-says a b h =
-    elim (decLt (a .section) (b .section))
-    [ yes l ↦ record { sections = omega arith; addresses = λ (e : a .section ≡ b .section). absurd (omega arith) }
-    | no l ↦
-        let t : eqb (a .section) (b .section) && ltb (a .address) (b .address) ≡ true =
-        rw (le-ltb (a .section) (b .section) (omega arith)) at h in
-        let e : a .section ≡ b .section = eqb-true _ _ (and-left (eqb (a .section) (b .section)) (ltb (a .address) (b .address)) t) in
-        record {
-          sections = omega arith;
-          addresses = λ q. ltb-true _ _ (and-right (eqb (a .section) (b .section)) (ltb (a .address) (b .address)) t);
-        } ]
+    elim (decLt (a .section) (b .section)) [
+      | yes l ↦ record { sections = omega arith; addresses = λ (e : a .section ≡ b .section). absurd (omega arith) }
+      | no l ↦
+          let t : eqb (a .section) (b .section) && ltb (a .address) (b .address) ≡ true =
+          rw (le-ltb (a .section) (b .section) (omega arith)) at h in
+          let e : a .section ≡ b .section = eqb-true _ _ (and-left (eqb (a .section) (b .section)) (ltb (a .address) (b .address)) t) in
+          record {
+            sections = omega arith;
+            addresses = λ q. ltb-true _ _ (and-right (eqb (a .section) (b .section)) (ltb (a .address) (b .address)) t);
+          }
+    ]
 
 pub before-by : (a b : SectionAddress) → Precedes a b → before a b ≡ true
 before-by a b p =
-    elim (decLt (a .section) (b .section))
-    [ yes l ↦ rw (lt-ltb (a .section) (b .section) l)
-    | no l ↦
-        let e : a .section ≡ b .section = omega arith in
-        rw (le-ltb (a .section) (b .section) (omega arith), eq-eqb (a .section) (b .section) e, lt-ltb (a .address) (b .address) (p .addresses e)) ]
+    elim (decLt (a .section) (b .section)) [
+      | yes l ↦ rw (lt-ltb (a .section) (b .section) l)
+      | no l ↦
+          let e : a .section ≡ b .section = omega arith in
+          rw (le-ltb (a .section) (b .section) (omega arith), eq-eqb (a .section) (b .section) e, lt-ltb (a .address) (b .address) (p .addresses e))
+    ]
 
 pub before-irreflexive : (a : SectionAddress) → before a a ≡ false
 before-irreflexive a =
@@ -65,13 +67,16 @@ before-total a b = by-section (decLt (a .section) (b .section)) (decLt (b .secti
   where
     one-way : (x y : SectionAddress) → x .section < y .section → before x y ≡ true
     one-way x y l = before-by x y (record { sections = omega arith; addresses = λ (e : x .section ≡ y .section). absurd (omega arith) })
+
     in-section : (x y : SectionAddress) → x .section ≡ y .section → x .address < y .address → before x y ≡ true
     in-section x y e l = before-by x y (record { sections = omega arith; addresses = λ q. l })
+
     by-address : a .section ≡ b .section → Dec (a .address < b .address) → Dec (b .address < a .address)
         → (before a b ≡ true) ⊎ ((a ≡ b) ⊎ (before b a ≡ true))
     by-address e (yes l) k = inl (in-section a b e l)
     by-address e (no l) (yes k) = inr (inr (in-section b a (sym e) k))
     by-address e (no l) (no k) = let q : a .address ≡ b .address = omega arith in inr (inl (same-place e q))
+
     by-section : Dec (a .section < b .section) → Dec (b .section < a .section) → (before a b ≡ true) ⊎ ((a ≡ b) ⊎ (before b a ≡ true))
     by-section (yes l) k = inl (one-way a b l)
     by-section (no l) (yes k) = inr (inr (one-way b a k))

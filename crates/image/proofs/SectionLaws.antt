@@ -61,9 +61,10 @@ section-at ws t i l = sound-section (sectionAt ws i) (every-at (λ (k : ℕ). se
 -- what holds of no two sections, one before the other, holds of one alone
 one-alone : (P : ℕ → ℕ → Type 0) → ((j i : ℕ) → P i j → P j i) → ((j i : ℕ) → j < i → P j i → ⊥) → (i j : ℕ) → P i j → i ≡ j
 one-alone P turn none i j p =
-    elim (decLt i j)
-    [ yes l ↦ absurd (none i j l p)
-    | no l ↦ elim (decLt j i) [ yes k ↦ absurd (none j i k (turn j i p)) | no k ↦ omega arith ] ]
+    elim (decLt i j) [
+      | yes l ↦ absurd (none i j l p)
+      | no l ↦ elim (decLt j i) [ yes k ↦ absurd (none j i k (turn j i p)) | no k ↦ omega arith ]
+    ]
 
 -- elf numbers are distinct
 elf-new : (ws : List ℕ) → SoundTables ws → (i : ℕ) → i < sections ws → (j : ℕ) → j < i → not (eqb (sectionAt ws j .elf) (sectionAt ws i .elf)) ≡ true

@@ -1,5 +1,6 @@
--- Laws of the lookups: what sound sections give, places in ascending order, and document 01's corners.
+-- Laws of the lookups: places with data and in code, places in ascending order, document 01's corners.
 pub mod SoundSections
+pub mod CodeBytes
 pub mod WordNumbers
 pub mod Within
 pub mod PlaceKeys

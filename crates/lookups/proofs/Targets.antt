@@ -1,11 +1,11 @@
 -- Whatever a lookup points to lies in a section that exists.
 -- Assumes nothing.
 use mathlib.Core.Path.{_≡_, refl, _∙_}
-use mathlib.Core.Bool.{Bool, true, false, _&&_, _||_}
+use mathlib.Core.Bool.{Bool, true, false, _&&_}
 use mathlib.Core.List.{List}
 use Prim.Native.Nat.{ℕ, _+_, _^_, _<_}
 use native.Mathlib.Omega.{arith}
-use borrow.Author.Tests.{ltb-true}
+use borrow.Author.Tests.{ltb-true, eqb-false}
 use lib.Dec.{ltb, eqb}
 use Rattle.words.specs.Choice.{pick}
 use Rattle.words.specs.Sums.{sum}
@@ -16,13 +16,12 @@ use Rattle.places.specs.declared.MaybeTarget.the-variants.{Missing, Known}
 use Rattle.search.specs.First.{onFound}
 use Rattle.search.specs.declared.Found.{Found}
 use Rattle.search.specs.declared.Found.the-variants as found
-use Rattle.search.proofs.EveryLaws.{every-at, and-right}
 use Rattle.search.proofs.FirstMatch.{first-below}
 use Rattle.image.specs.declared.Bound.{Bound}
 use Rattle.image.specs.declared.Unbound.{Unbound}
 use Rattle.image.specs.Numbers.{executableKind, noSection}
 use Rattle.image.specs.Layout.{imageKind, moduleNumber, sections, bounds, sectionAt, boundAt, unboundAt}
-use Rattle.image.specs.Rules.{liesIn, hasElf, elfIndex, boundSound, boundsSound, holds, tablesSound}
+use Rattle.image.specs.Rules.{hasElf, elfIndex, holds, tablesSound}
 use Rattle.lookups.specs.declared.Wanted.{Wanted}
 use Rattle.lookups.specs.declared.Wanted.the-variants as wanted
 use Rattle.lookups.specs.declared.Relocation.{Relocation}
@@ -30,6 +29,7 @@ use Rattle.lookups.specs.declared.Relocation.the-variants.{Nothing, Erro
 use Rattle.lookups.specs.Sections.{held, atAddress}
 use Rattle.lookups.specs.Relocations.{differs, boundHere, boundIndex, boundTarget, unboundIndex, unboundTarget, intoSection, relocationFor, known, targetAt, onTarget, placeIn, bareAddress, sectionAddressFor}
 use Rattle.image.proofs.SoundTables.{SoundTables, sound-tables}
+use Rattle.image.proofs.EntryLaws.{SoundBound, bound-at}
 
 -- an address, by the section that it names
 named : (ws : List ℕ) (i a : ℕ) (q : SectionAddress) → i < sections ws → To (Address (record { section = i; address = a })) ≡ To (Address q) → q .section < sections ws
@@ -47,21 +47,17 @@ not-nothing : {A : Type 0} (q : SectionAddress) → Nothing ≡ To (Address q) �
 not-nothing q e = let z : _≡_ {A = ℕ} 0 1 = cc in absurd (omega arith)
 
 -- a bound entry names its symbol's section
-bound-case : (ws : List ℕ) (r : Bound) (q : SectionAddress) (d n : Bool) → n || ltb (r .«symbol_section») (sections ws) ≡ true
+bound-case : (ws : List ℕ) (r : Bound) (q : SectionAddress) (d n : Bool) → eqb (r .«symbol_section») noSection ≡ n → SoundBound ws r
     → pick d Error (pick n (To External) (To (Address (record { section = r .«symbol_section»; address = sum (r .«symbol_address») (r .addend) })))) ≡ To (Address q)
     → q .section < sections ws
-bound-case ws r q true n s e = not-error q e
-bound-case ws r q false true s e = not-external q e
-bound-case ws r q false false s e = named ws (r .«symbol_section») (sum (r .«symbol_address») (r .addend)) q (ltb-true _ _ s) e
+bound-case ws r q true n g s e = not-error q e
+bound-case ws r q false true g s e = not-external q e
+bound-case ws r q false false g s e = named ws (r .«symbol_section») (sum (r .«symbol_address») (r .addend)) q (s .symbol-in (eqb-false _ _ g)) e
 
 bound-exists : (ws : List ℕ) (k : Wanted) (j : ℕ) (q : SectionAddress) → SoundTables ws → j < bounds ws → boundTarget k (boundAt ws j) ≡ To (Address q) → q .section < sections ws
-unfolding boundsSound
 bound-exists ws k j q s h e =
     let r = boundAt ws j in
-    let rule = every-at (λ (i : ℕ). boundSound ws (boundAt ws i)) (bounds ws) j (s .bounds-sound) h in
-    bound-case ws r q (differs k (r .kind)) (eqb (r .«symbol_section») noSection)
-    (and-right (ltb (r .section) (sections ws) && ltb (r .kind) 2 && liesIn (sectionAt ws (r .section)) (r .address) (r .kind)) (eqb (r .«symbol_section») noSection || ltb (r .«symbol_section») (sections ws)) rule)
-    e
+    bound-case ws r q (differs k (r .kind)) (eqb (r .«symbol_section») noSection) refl (bound-at ws s j h) e
 
 -- an unbound entry names the section that was found for its target
 sum-case : (ws : List ℕ) (i a : ℕ) (q : SectionAddress) (t : Bool) → i < sections ws → pick t (To (Address (record { section = i; address = a }))) Error ≡ To (Address q) → q .section < sections ws

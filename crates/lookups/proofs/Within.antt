@@ -1,7 +1,6 @@
 -- An address lies in a section exactly where its distance from the start is below the size.
 -- Assumes nothing.
-use mathlib.Core.Path.{_≡_, refl, sym, _∙_}
-use mathlib.Core.Bool.{Bool, true, false, _&&_}
+use mathlib.Core.Path.{_≡_, sym, _∙_}
 use Prim.Native.Nat.{ℕ, _+_, _-_, _≤_}
 use native.Mathlib.Omega.{arith}
 use native.Mathlib.Decide.{decLt}
@@ -14,10 +13,3 @@ ltb-sub a s v h =
       | yes l ↦ lt-ltb (v - a) s l ∙ sym (lt-ltb v (a + s) (omega arith))
       | no l ↦ le-ltb (v - a) s (omega arith) ∙ sym (le-ltb v (a + s) (omega arith))
     ]
-
-pub and-true-left : (a b : Bool) → a ≡ true → a && b ≡ b
-and-true-left a b e = rw e
-
-pub and-true-right : (a b : Bool) → b ≡ true → a && b ≡ a
-and-true-right true b e = e
-and-true-right false b e = refl

@@ -2,9 +2,12 @@
 // Requires sound tables.
 ghost use mathlib.Core.Path.{_≡_};
 ghost use mathlib.Core.Bool.{true};
-ghost use Rattle.image.specs.Rules.{tablesSound};
+ghost use lib.ListN.{length};
+ghost use Rattle.image.specs.Rules.{tablesSound, dataInside};
+ghost use Rattle.lookups.specs.Bytes.{wordAt};
 ghost use Rattle.lookups.specs.Code.{inCode, codePlace, wordNumber};
 use crate::CodePlace;
+use crate::MaybeWord;
 use crate::WordNumber;
 use crate::sections::is_within;
 use image::code::words_before;
@@ -12,6 +15,7 @@ use image::numbers::CODE;
 use image::table::section;
 use image::table::section_count;
 use places::SectionAddress;
+use words::bytes::four;
 
 // NotCode (2) unless the place's own section exists, is Code and holds it; then Misaligned (3) unless its address is a
 // multiple of 4; else Fine.
@@ -53,4 +57,15 @@ pub fn word_number(im: &[u32], at: SectionAddress) -> WordNumber
     let before = words_before(im, i);
     let from = im[i * 6 + 6];
     WordNumber(before as u32 + (at.address - from) / 4)
+}
+
+// The word at an aligned place of code: two words of the tables and four bytes are read.
+pub fn code_word(im: &[u32], bytes: &[u8], at: SectionAddress) -> u32
+    requires { ⌜ (tablesSound (now im) ≡ true) × (dataInside (now im) (length (now bytes)) ≡ true) × (codePlace (now im) at ≡ CodePlace.Fine) ⌝ }
+    ensures { λ r. ⌜ MaybeWord.Read r ≡ wordAt (now (im .entry)) (now (bytes .entry)) at ⌝ }
+{
+    let i = at.section as usize;
+    let from = im[i * 6 + 6];
+    let place = im[i * 6 + 10] as usize;
+    four(bytes, place + (at.address - from) as usize)
 }

@@ -13,6 +13,7 @@ pub mod sorted;
 pub use bytes::data_from;
 pub use bytes::read_u32;
 pub use code::code_place;
+pub use code::code_word;
 pub use code::is_in_code;
 pub use code::word_number;
 pub use relocations::relocation_target_for;

@@ -24,6 +24,10 @@ pub and-false-right : (a b : Bool) → b ≡ false → a && b ≡ false
 and-false-right true b e = e
 and-false-right false b e = refl
 
+pub and-true-right : (a b : Bool) → b ≡ true → a && b ≡ a
+and-true-right true b e = e
+and-true-right false b e = refl
+
 -- none is tested yet
 pub every-none : (p : ℕ → Bool) → every p 0 ≡ true
 unfolding every

@@ -1,7 +1,6 @@
 -- The tests are made in the other order than the definition's.
 -- Assumes nothing.
-use Rattle.lookups.proofs.Within.{and-true-right}
-use Rattle.search.proofs.EveryLaws.{and-false-right}
+use Rattle.search.proofs.EveryLaws.{and-false-right, and-true-right}
 use Rattle.image.specs.Layout.{word}
 use borrow.Author.Tests.{eq-eqb, ne-eqb}
 use lib.Dec.{eqb}
