@@ -3,6 +3,20 @@
 use places::MaybeAddress;
 use places::SectionAddress;
 
+pub mod keys;
+pub mod readings;
+pub mod tables;
+
+pub use readings::guessed_reading;
+pub use readings::sized_reading;
+pub use tables::table_in;
+
+// How a table is read: by its size, or guessed within a function's start and its end, which may be missing.
+pub enum How {
+    Sized,
+    Guessed(SectionAddress, MaybeAddress),
+}
+
 // What a word of a table means.
 pub enum Reading {
     // The guess ends before this word.
@@ -16,6 +30,13 @@ pub enum Reading {
     Entry(SectionAddress),
 }
 
+// How many entries a buffer holds, and whether one more was met that it has no room for.
+pub struct Held {
+    pub count: usize,
+    pub over: bool,
+}
+
+// Document 01's numbers: 1, 7, 8, 9, 10; and 0 for a table that was read.
 pub enum TableAnswer {
     Broken,
     RelocationError,

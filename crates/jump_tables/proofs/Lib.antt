@@ -1,0 +1,3 @@
+-- Laws of jump tables.
+pub mod Inserting
+pub mod Shifting
