@@ -1,3 +1,5 @@
 -- Laws of jump tables.
 pub mod Inserting
 pub mod Shifting
+pub mod TablePlaces
+pub mod Gathering
