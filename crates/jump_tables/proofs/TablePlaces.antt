@@ -58,6 +58,6 @@ word-there ws bs p a t d e l h =
     let s = sectionAt ws (p .section) in
     let q : SectionAddress = record { section = p .section; address = a } in
     let there : hasData ws q ≡ true = rw (lt-ltb (p .section) (sections ws) (i .place .exists), i .has-bytes, le-leb (s .address) a (omega (arith, i .place .from)), lt-ltb a (endOf s) (omega arith)) in
-    let data = has-data ws (length bs) q t d there in
-    let size : 4 ≤ length (take (endOf s - a) (drop (offsetIn ws (p .section) a) bs)) = simp (length-take, length-drop) (omega (arith, data .inside, i .place .from)) in
+    let bytes = has-data ws (length bs) q t d there in
+    let size : 4 ≤ length (take (endOf s - a) (drop (offsetIn ws (p .section) a) bs)) = simp (length-take, length-drop) (omega (arith, bytes .inside, i .place .from)) in
     rw (there, le-leb 4 (length (take (endOf s - a) (drop (offsetIn ws (p .section) a) bs))) size)
