@@ -1,5 +1,5 @@
 -- Blanking the registers of a set in a loop: `take_lowest` until the set is empty, one register blanked a turn.
--- The invariant is that blanking the rest of the set gives the result; `blank-start`, `blank-take` and `blank-none` are its three steps.
+-- The invariant is that blanking the rest of the set gives the result: `blank-start` before the loop, `blank-turn` in each turn, `blank-none` after it.
 -- Assumes nothing.
 use mathlib.Core.Path.{_≡_, refl, sym, ap, ap₂, _∙_, subst}
 use mathlib.Core.Bool.{Bool, true, false}
@@ -10,9 +10,10 @@ use native.Mathlib.Omega.{arith}
 use lib.Dec.{eqb}
 use lib.ListN.{length, set}
 use Rattle.words.specs.Choice.{pick}
-use Rattle.decoder.specs.Written.{setOf, inSet, blankWhere}
+use Rattle.decoder.specs.Written.{setOf, inSet, lowestOf, blankWhere}
+use Rattle.decoder.specs.declared.Taken.{Taken}
 use Rattle.decoder.proofs.Sets.{in-set-of}
-use Rattle.decoder.proofs.Lowest.{without-other}
+use Rattle.decoder.proofs.Lowest.{lowest-lt, lowest-in, without-other, without-less}
 
 module _ {A : Type 0} (blank : A) where
   blank-same : (f g : ℕ → Bool) (i : ℕ) (xs : List A) → ((r : ℕ) → r < i + length xs → f r ≡ g r) → blankWhere blank f i xs ≡ blankWhere blank g i xs
@@ -62,3 +63,15 @@ module _ {A : Type 0} (blank : A) where
       blank-now (inSet (s - 2 ^ r)) (inSet s) 0 r xs
       (λ k ne. without-other s r t k (λ z. ne (z ∙ sym (zero-add r))))
       (ap (inSet s) (zero-add r) ∙ t)
+
+  -- the same of what `take_lowest` answered, with the bound for the index and the measure
+  pub blank-turn : (s : ℕ) (k : Taken) → k ≡ lowestOf s → 0 < s → s < 2 ^ 32
+      → (k .register < 32) × (k .rest < s) × ((xs : List A) → blankWhere blank (inSet (k .rest)) 0 (set xs (k .register) blank) ≡ blankWhere blank (inSet s) 0 xs)
+  blank-turn s k e some word =
+      subst (λ (t : Taken). (t .register < 32) × (t .rest < s) × ((xs : List A) → blankWhere blank (inSet (t .rest)) 0 (set xs (t .register) blank) ≡ blankWhere blank (inSet s) 0 xs)) (sym e)
+      (lowest-lt s some word, without-less s (lowestOf s .register) (lowest-in s some word), λ xs. blank-take s (lowestOf s .register) xs (lowest-in s some word))
+
+  pub blank-length : (f : ℕ → Bool) (i : ℕ) (xs : List A) → length (blankWhere blank f i xs) ≡ length xs
+  unfolding blankWhere
+  blank-length f i [] = refl
+  blank-length f i (x ∷ xs) = ap suc (blank-length f (suc i) xs)

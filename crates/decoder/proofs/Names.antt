@@ -2,6 +2,8 @@
 -- Assumes nothing.
 use mathlib.Core.Path.{_≡_, refl}
 use denote.Enum.Declared.{tagOf}
+use Prim.Native.Nat.{_<_}
+use lib.Dec.{lit<}
 use lib.ListN.{getD}
 use Rattle.decoder.specs.Ops.{numberOf, names, kindNumber, kinds}
 use Rattle.decoder.specs.declared.Op.{Op}
@@ -114,6 +116,59 @@ tag-number Or = refl
 tag-number Add = refl
 tag-number Subf = refl
 tag-number Subfc = refl
+
+-- the operations fit the six low bits of an entry
+pub number-lt : (o : Op) → numberOf o < 64
+number-lt Illegal = lit< tt
+number-lt Other = lit< tt
+number-lt Subfic = lit< tt
+number-lt Cmpli = lit< tt
+number-lt Cmpi = lit< tt
+number-lt Addic = lit< tt
+number-lt AddicDot = lit< tt
+number-lt Addi = lit< tt
+number-lt Addis = lit< tt
+number-lt Bc = lit< tt
+number-lt B = lit< tt
+number-lt Rlwinm = lit< tt
+number-lt Rlwnm = lit< tt
+number-lt Ori = lit< tt
+number-lt Lwz = lit< tt
+number-lt Lwzu = lit< tt
+number-lt Lbz = lit< tt
+number-lt Lbzu = lit< tt
+number-lt Stw = lit< tt
+number-lt Stwu = lit< tt
+number-lt Stb = lit< tt
+number-lt Stbu = lit< tt
+number-lt Lhz = lit< tt
+number-lt Lhzu = lit< tt
+number-lt Lha = lit< tt
+number-lt Lhau = lit< tt
+number-lt Sth = lit< tt
+number-lt Sthu = lit< tt
+number-lt Lmw = lit< tt
+number-lt Stmw = lit< tt
+number-lt Lfs = lit< tt
+number-lt Lfsu = lit< tt
+number-lt Lfd = lit< tt
+number-lt Lfdu = lit< tt
+number-lt Stfs = lit< tt
+number-lt Stfsu = lit< tt
+number-lt Stfd = lit< tt
+number-lt Stfdu = lit< tt
+number-lt Bclr = lit< tt
+number-lt Rfi = lit< tt
+number-lt Bcctr = lit< tt
+number-lt Cmp = lit< tt
+number-lt Cmpl = lit< tt
+number-lt Lwzx = lit< tt
+number-lt Mfspr = lit< tt
+number-lt Mtspr = lit< tt
+number-lt Or = lit< tt
+number-lt Add = lit< tt
+number-lt Subf = lit< tt
+number-lt Subfc = lit< tt
 
 pub kind-named : (k : Writes) → getD kinds (kindNumber k) Nothing ≡ k
 unfolding kinds

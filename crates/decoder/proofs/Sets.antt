@@ -11,7 +11,7 @@ use lib.Bits.{bitOr}
 use lib.Pow.{pow-pos, pow-lt, high, low, field, mod-mod-pow}
 use Rattle.words.specs.Choice.{pick}
 use Rattle.words.proofs.Tests.{all, below}
-use Rattle.decoder.specs.Written.{setOf, inSet}
+use Rattle.decoder.specs.Written.{writes, setOf, inSet, writtenSet}
 
 -- `1 << d` is the set of register d: one test over the 32 registers
 single : ℕ → Bool
@@ -87,3 +87,7 @@ one-is false = refl
 -- a register is in the set of a test exactly where the test holds
 pub in-set-of : (f : ℕ → Bool) (n r : ℕ) → r < n → inSet (setOf f n) r ≡ f r
 in-set-of f n r h = ap (λ (z : ℕ). eqb z 1) (digit-of f n r h) ∙ one-is (f r)
+
+-- a register is in the set that a word writes exactly where the word writes it
+pub in-written : (w r : ℕ) → r < 32 → inSet (writtenSet w) r ≡ writes w r
+in-written w r h = in-set-of (writes w) 32 r h

@@ -67,7 +67,7 @@ look test r rs p x false e t k = k (both-right (test r (r .primary) (r .extended
     both-right true b t = t
     both-right false b t = absurd t
 
-found : (test : Row → ℕ → ℕ → Bool) (rs : List Row) (p x : ℕ) → T (eachRow test rs) → T (test none p x) → T (test (first rs p x) p x)
+pub found : (test : Row → ℕ → ℕ → Bool) (rs : List Row) (p x : ℕ) → T (eachRow test rs) → T (test none p x) → T (test (first rs p x) p x)
 unfolding first
 found test [] p x t n = n
 found test (r ∷ rs) p x t n = look test r rs p x (fits r p x) refl t (λ t′. found test rs p x t′ n)

@@ -1,10 +1,11 @@
 -- The opcode table of document 01, row by row in its order, and the row of a pair of opcodes.
 -- Assumes nothing.
-use Prim.Native.Nat.{ℕ, zero, suc}
+use Prim.Native.Nat.{ℕ, _+_, _*_}
 use mathlib.Core.Bool.{Bool, _&&_}
 use mathlib.Core.List.{List, [], _∷_}
 use lib.Dec.{eqb}
 use Rattle.words.specs.Choice.{pick}
+use Rattle.decoder.specs.Ops.{numberOf, kindNumber}
 use Rattle.decoder.specs.declared.Op.{Op}
 use Rattle.decoder.specs.declared.Op.the-variants.{Illegal, Other, Subfic, Cmpli, Cmpi, Addic, AddicDot, Addi, Addis, Bc, B, Rlwinm, Rlwnm, Ori, Lwz, Lwzu, Lbz, Lbzu, Stw, Stwu, Stb, Stbu, Lhz, Lhzu, Lha, Lhau, Sth, Sthu, Lmw, Stmw, Lfs, Lfsu, Lfd, Lfdu, Stfs, Stfsu, Stfd, Stfdu, Bclr, Rfi, Bcctr, Cmp, Cmpl, Lwzx, Mfspr, Mtspr, Or, Add, Subf, Subfc}
 use Rattle.decoder.specs.declared.Writes.{Writes}
@@ -217,11 +218,6 @@ unfoldable pub first : List Row → ℕ → ℕ → Row
 first [] p x = none
 first (r ∷ rs) p x = pick (fits r p x) r (first rs p x)
 
--- the number of that row, counted from 1, and 0 where there is none
-abbrev pub after : ℕ → ℕ
-after zero = 0
-after (suc n) = suc (suc n)
-
-unfoldable pub place : List Row → ℕ → ℕ → ℕ
-place [] p x = 0
-place (r ∷ rs) p x = pick (fits r p x) 1 (after (place rs p x))
+-- a row as one number: 64 times the kind of what it writes, plus its operation
+abbrev pub coded : Row → ℕ
+coded r = kindNumber (r .writes) * 64 + numberOf (r .op)

@@ -5,7 +5,6 @@ ghost use Rattle.decoder.specs.Decode.{decoded, displacementOf, branchDe
 ghost use Rattle.decoder.specs.Written.{setBy, writtenSet, lowestOf};
 
 pub mod class;
-mod index;
 mod table;
 
 // What `step` tells apart. Illegal: a word that document 01 does not list. Other: a listed word
@@ -63,7 +62,7 @@ pub enum Op {
     Subfc,
 }
 
-// Which of its fields name the general registers that a word writes.
+// The kinds of sets of general registers that a word writes: none, or what its fields rD and rA name.
 pub enum Writes {
     Nothing,
     Rd,
@@ -71,6 +70,7 @@ pub enum Writes {
     RdRa,
 }
 
+// What a word is: its operation, and which registers it writes.
 pub struct Decoded {
     pub op: Op,
     pub writes: Writes,
@@ -81,9 +81,9 @@ pub struct Decoded {
 pub fn decode(w: u32) -> Decoded
     ensures { λ r. ⌜ r ≡ decoded w ⌝ }
 {
-    let i = table::row_of(w) as usize;
-    let op = table::op_named(table::OPS[i]);
-    let writes = table::kind_named(table::WRITES[i]);
+    let e = table::entry_of(w);
+    let op = table::op_named(e % 64);
+    let writes = table::kind_named(e / 64);
     Decoded { op, writes }
 }
 

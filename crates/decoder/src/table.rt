@@ -1,34 +1,75 @@
 // The opcode table in columns of numbers, and the lookups in it.
-// The columns are proved to be those of `rows` in specs/Table.antt, row by row in the same order.
+// An entry is 64 times the kind of what the word writes, plus the operation, both by number; 0 where there is no row.
+// The columns are proved to be listed from `rows` in specs/Table.antt. Those of extended opcodes are split by the low five
+// bits, as in the manual's opcode maps, since a lookup stores the column that it reads on the stack.
 ghost use mathlib.Core.Path.{_≡_};
+ghost use Prim.Native.Nat.{_<_};
 ghost use lib.ListN.{getD};
-ghost use Rattle.words.specs.Word.{field};
 ghost use Rattle.decoder.specs.Ops.{names, kinds};
-ghost use Rattle.decoder.specs.Table.{place, rows};
-ghost use Rattle.decoder.specs.Decode.{extendedIn};
+ghost use Rattle.decoder.specs.Table.{rows, first, coded};
+ghost use Rattle.decoder.specs.Decode.{rowOf};
 use crate::Op;
 use crate::Writes;
-use crate::index::BY_PRIMARY;
-use crate::index::UNDER_19;
-use crate::index::UNDER_31;
 
-// The number of the word's row, counted from 1; 0 where it has none.
-pub fn row_of(w: u32) -> u8
-    ensures { λ r. ⌜ r ≡ place rows (field w 0 5) (extendedIn w) ⌝ }
+// The entry of the word's row.
+pub fn entry_of(w: u32) -> u16
+    ensures { λ r. ⌜ r ≡ coded (rowOf w) ⌝ }
 {
     let p = words::field::opcd(w) as usize;
     let x = words::field::xo(w) as usize;
     if p == 31 {
-        return UNDER_31[x];
+        return under_31(x);
     }
     if p == 19 {
-        return UNDER_19[x];
+        return under_19(x);
     }
     BY_PRIMARY[p]
 }
 
+// The entry of an extended opcode under 31.
+fn under_31(x: usize) -> u16
+    requires { ⌜ x < 1024 ⌝ }
+    ensures { λ r. ⌜ r ≡ coded (first rows 31 x) ⌝ }
+{
+    let q = x / 32;
+    match x % 32 {
+        0 => UNDER_31_0[q],
+        4 => UNDER_31_4[q],
+        8 => UNDER_31_8[q],
+        10 => UNDER_31_10[q],
+        11 => UNDER_31_11[q],
+        16 => UNDER_31_16[q],
+        18 => UNDER_31_18[q],
+        19 => UNDER_31_19[q],
+        20 => UNDER_31_20[q],
+        21 => UNDER_31_21[q],
+        22 => UNDER_31_22[q],
+        23 => UNDER_31_23[q],
+        24 => UNDER_31_24[q],
+        26 => UNDER_31_26[q],
+        28 => UNDER_31_28[q],
+        _ => 0,
+    }
+}
+
+// The entry of an extended opcode under 19.
+fn under_19(x: usize) -> u16
+    requires { ⌜ x < 1024 ⌝ }
+    ensures { λ r. ⌜ r ≡ coded (first rows 19 x) ⌝ }
+{
+    let q = x / 32;
+    match x % 32 {
+        0 => UNDER_19_0[q],
+        1 => UNDER_19_1[q],
+        16 => UNDER_19_16[q],
+        18 => UNDER_19_18[q],
+        22 => UNDER_19_22[q],
+        _ => 0,
+    }
+}
+
 // The operation with a number; Illegal past the last.
-pub fn op_named(n: u8) -> Op
+pub fn op_named(n: u16) -> Op
     ensures { λ r. ⌜ r ≡ getD names n Op.Illegal ⌝ }
 {
     let i = n as usize;
@@ -36,364 +77,12 @@ pub fn op_named(n: u8) -> Op
 }
 
 // The kind of what is written with a number; Nothing past the last.
-pub fn kind_named(n: u8) -> Writes
+pub fn kind_named(n: u16) -> Writes
     ensures { λ r. ⌜ r ≡ getD kinds n Writes.Nothing ⌝ }
 {
     let i = n as usize;
     if i < 4 { KINDS[i] } else { Writes::Nothing }
 }
-
-// The operation of each row by its number; before the first row Illegal, for no row.
-pub const OPS: [u8; 172] = [
-    0,
-    1, // 7 mulli
-    2, // 8 subfic
-    3, // 10 cmpli
-    4, // 11 cmpi
-    5, // 12 addic
-    6, // 13 addic.
-    7, // 14 addi
-    8, // 15 addis
-    9, // 16 bc
-    10, // 18 b
-    1, // 20 rlwimi
-    11, // 21 rlwinm
-    12, // 23 rlwnm
-    13, // 24 ori
-    1, // 25 oris
-    1, // 26 xori
-    1, // 27 xoris
-    1, // 28 andi.
-    1, // 29 andis.
-    14, // 32 lwz
-    15, // 33 lwzu
-    16, // 34 lbz
-    17, // 35 lbzu
-    18, // 36 stw
-    19, // 37 stwu
-    20, // 38 stb
-    21, // 39 stbu
-    22, // 40 lhz
-    23, // 41 lhzu
-    24, // 42 lha
-    25, // 43 lhau
-    26, // 44 sth
-    27, // 45 sthu
-    28, // 46 lmw
-    29, // 47 stmw
-    30, // 48 lfs
-    31, // 49 lfsu
-    32, // 50 lfd
-    33, // 51 lfdu
-    34, // 52 stfs
-    35, // 53 stfsu
-    36, // 54 stfd
-    37, // 55 stfdu
-    38, // 19 16 bclr
-    39, // 19 50 rfi
-    40, // 19 528 bcctr
-    41, // 31 0 cmp
-    42, // 31 32 cmpl
-    43, // 31 23 lwzx
-    44, // 31 339 mfspr
-    45, // 31 467 mtspr
-    46, // 31 444 or
-    47, // 31 266 add
-    48, // 31 40 subf
-    49, // 31 8 subfc
-    47, // 31 778 addo
-    48, // 31 552 subfo
-    49, // 31 520 subfco
-    1, // 31 10 addc
-    1, // 31 522 addco
-    1, // 31 138 adde
-    1, // 31 650 addeo
-    1, // 31 202 addze
-    1, // 31 714 addzeo
-    1, // 31 234 addme
-    1, // 31 746 addmeo
-    1, // 31 136 subfe
-    1, // 31 648 subfeo
-    1, // 31 200 subfze
-    1, // 31 712 subfzeo
-    1, // 31 232 subfme
-    1, // 31 744 subfmeo
-    1, // 31 235 mullw
-    1, // 31 747 mullwo
-    1, // 31 459 divwu
-    1, // 31 971 divwuo
-    1, // 31 491 divw
-    1, // 31 1003 divwo
-    1, // 31 104 neg
-    1, // 31 616 nego
-    1, // 31 75 mulhw
-    1, // 31 11 mulhwu
-    1, // 31 19 mfcr
-    1, // 31 83 mfmsr
-    1, // 31 87 lbzx
-    1, // 31 279 lhzx
-    1, // 31 343 lhax
-    1, // 31 20 lwarx
-    1, // 31 371 mftb
-    1, // 31 533 lswx
-    1, // 31 597 lswi
-    1, // 31 534 lwbrx
-    1, // 31 790 lhbrx
-    1, // 31 595 mfsr
-    1, // 31 659 mfsrin
-    1, // 31 310 eciwx
-    1, // 31 55 lwzux
-    1, // 31 119 lbzux
-    1, // 31 311 lhzux
-    1, // 31 375 lhaux
-    1, // 31 28 and
-    1, // 31 60 andc
-    1, // 31 124 nor
-    1, // 31 284 eqv
-    1, // 31 316 xor
-    1, // 31 412 orc
-    1, // 31 476 nand
-    1, // 31 24 slw
-    1, // 31 536 srw
-    1, // 31 792 sraw
-    1, // 31 824 srawi
-    1, // 31 26 cntlzw
-    1, // 31 954 extsb
-    1, // 31 922 extsh
-    1, // 31 183 stwux
-    1, // 31 247 stbux
-    1, // 31 439 sthux
-    1, // 31 567 lfsux
-    1, // 31 631 lfdux
-    1, // 31 695 stfsux
-    1, // 31 759 stfdux
-    1, // 3 twi
-    1, // 17 sc
-    1, // 4 ps_..
-    1, // 56 psq_l
-    1, // 57 psq_lu
-    1, // 59 f..s
-    1, // 60 psq_st
-    1, // 61 psq_stu
-    1, // 63 f..
-    1, // 19 0 mcrf
-    1, // 19 150 isync
-    1, // 19 33 crnor
-    1, // 19 129 crandc
-    1, // 19 193 crxor
-    1, // 19 225 crnand
-    1, // 19 257 crand
-    1, // 19 289 creqv
-    1, // 19 417 crorc
-    1, // 19 449 cror
-    1, // 31 151 stwx
-    1, // 31 215 stbx
-    1, // 31 407 sthx
-    1, // 31 150 stwcx.
-    1, // 31 662 stwbrx
-    1, // 31 918 sthbrx
-    1, // 31 661 stswx
-    1, // 31 725 stswi
-    1, // 31 535 lfsx
-    1, // 31 599 lfdx
-    1, // 31 663 stfsx
-    1, // 31 727 stfdx
-    1, // 31 983 stfiwx
-    1, // 31 4 tw
-    1, // 31 54 dcbst
-    1, // 31 86 dcbf
-    1, // 31 246 dcbtst
-    1, // 31 278 dcbt
-    1, // 31 470 dcbi
-    1, // 31 982 icbi
-    1, // 31 1014 dcbz
-    1, // 31 598 sync
-    1, // 31 854 eieio
-    1, // 31 144 mtcrf
-    1, // 31 512 mcrxr
-    1, // 31 146 mtmsr
-    1, // 31 210 mtsr
-    1, // 31 242 mtsrin
-    1, // 31 306 tlbie
-    1, // 31 566 tlbsync
-    1, // 31 438 ecowx
-];
-
-// What the words of each row write, by its number; before the first row nothing, for no row.
-pub const WRITES: [u8; 172] = [
-    0,
-    1, // 7 mulli
-    1, // 8 subfic
-    0, // 10 cmpli
-    0, // 11 cmpi
-    1, // 12 addic
-    1, // 13 addic.
-    1, // 14 addi
-    1, // 15 addis
-    0, // 16 bc
-    0, // 18 b
-    2, // 20 rlwimi
-    2, // 21 rlwinm
-    2, // 23 rlwnm
-    2, // 24 ori
-    2, // 25 oris
-    2, // 26 xori
-    2, // 27 xoris
-    2, // 28 andi.
-    2, // 29 andis.
-    1, // 32 lwz
-    3, // 33 lwzu
-    1, // 34 lbz
-    3, // 35 lbzu
-    0, // 36 stw
-    2, // 37 stwu
-    0, // 38 stb
-    2, // 39 stbu
-    1, // 40 lhz
-    3, // 41 lhzu
-    1, // 42 lha
-    3, // 43 lhau
-    0, // 44 sth
-    2, // 45 sthu
-    1, // 46 lmw
-    0, // 47 stmw
-    0, // 48 lfs
-    2, // 49 lfsu
-    0, // 50 lfd
-    2, // 51 lfdu
-    0, // 52 stfs
-    2, // 53 stfsu
-    0, // 54 stfd
-    2, // 55 stfdu
-    0, // 19 16 bclr
-    0, // 19 50 rfi
-    0, // 19 528 bcctr
-    0, // 31 0 cmp
-    0, // 31 32 cmpl
-    1, // 31 23 lwzx
-    1, // 31 339 mfspr
-    0, // 31 467 mtspr
-    2, // 31 444 or
-    1, // 31 266 add
-    1, // 31 40 subf
-    1, // 31 8 subfc
-    1, // 31 778 addo
-    1, // 31 552 subfo
-    1, // 31 520 subfco
-    1, // 31 10 addc
-    1, // 31 522 addco
-    1, // 31 138 adde
-    1, // 31 650 addeo
-    1, // 31 202 addze
-    1, // 31 714 addzeo
-    1, // 31 234 addme
-    1, // 31 746 addmeo
-    1, // 31 136 subfe
-    1, // 31 648 subfeo
-    1, // 31 200 subfze
-    1, // 31 712 subfzeo
-    1, // 31 232 subfme
-    1, // 31 744 subfmeo
-    1, // 31 235 mullw
-    1, // 31 747 mullwo
-    1, // 31 459 divwu
-    1, // 31 971 divwuo
-    1, // 31 491 divw
-    1, // 31 1003 divwo
-    1, // 31 104 neg
-    1, // 31 616 nego
-    1, // 31 75 mulhw
-    1, // 31 11 mulhwu
-    1, // 31 19 mfcr
-    1, // 31 83 mfmsr
-    1, // 31 87 lbzx
-    1, // 31 279 lhzx
-    1, // 31 343 lhax
-    1, // 31 20 lwarx
-    1, // 31 371 mftb
-    1, // 31 533 lswx
-    1, // 31 597 lswi
-    1, // 31 534 lwbrx
-    1, // 31 790 lhbrx
-    1, // 31 595 mfsr
-    1, // 31 659 mfsrin
-    1, // 31 310 eciwx
-    3, // 31 55 lwzux
-    3, // 31 119 lbzux
-    3, // 31 311 lhzux
-    3, // 31 375 lhaux
-    2, // 31 28 and
-    2, // 31 60 andc
-    2, // 31 124 nor
-    2, // 31 284 eqv
-    2, // 31 316 xor
-    2, // 31 412 orc
-    2, // 31 476 nand
-    2, // 31 24 slw
-    2, // 31 536 srw
-    2, // 31 792 sraw
-    2, // 31 824 srawi
-    2, // 31 26 cntlzw
-    2, // 31 954 extsb
-    2, // 31 922 extsh
-    2, // 31 183 stwux
-    2, // 31 247 stbux
-    2, // 31 439 sthux
-    2, // 31 567 lfsux
-    2, // 31 631 lfdux
-    2, // 31 695 stfsux
-    2, // 31 759 stfdux
-    0, // 3 twi
-    0, // 17 sc
-    0, // 4 ps_..
-    0, // 56 psq_l
-    0, // 57 psq_lu
-    0, // 59 f..s
-    0, // 60 psq_st
-    0, // 61 psq_stu
-    0, // 63 f..
-    0, // 19 0 mcrf
-    0, // 19 150 isync
-    0, // 19 33 crnor
-    0, // 19 129 crandc
-    0, // 19 193 crxor
-    0, // 19 225 crnand
-    0, // 19 257 crand
-    0, // 19 289 creqv
-    0, // 19 417 crorc
-    0, // 19 449 cror
-    0, // 31 151 stwx
-    0, // 31 215 stbx
-    0, // 31 407 sthx
-    0, // 31 150 stwcx.
-    0, // 31 662 stwbrx
-    0, // 31 918 sthbrx
-    0, // 31 661 stswx
-    0, // 31 725 stswi
-    0, // 31 535 lfsx
-    0, // 31 599 lfdx
-    0, // 31 663 stfsx
-    0, // 31 727 stfdx
-    0, // 31 983 stfiwx
-    0, // 31 4 tw
-    0, // 31 54 dcbst
-    0, // 31 86 dcbf
-    0, // 31 246 dcbtst
-    0, // 31 278 dcbt
-    0, // 31 470 dcbi
-    0, // 31 982 icbi
-    0, // 31 1014 dcbz
-    0, // 31 598 sync
-    0, // 31 854 eieio
-    0, // 31 144 mtcrf
-    0, // 31 512 mcrxr
-    0, // 31 146 mtmsr
-    0, // 31 210 mtsr
-    0, // 31 242 mtsrin
-    0, // 31 306 tlbie
-    0, // 31 566 tlbsync
-    0, // 31 438 ecowx
-];
 
 // The operations by their numbers.
 const NAMES: [Op; 50] = [
@@ -451,3 +140,791 @@ const NAMES: [Op; 50] = [
 
 // The kinds of what is written by their numbers.
 const KINDS: [Writes; 4] = [Writes::Nothing, Writes::Rd, Writes::Ra, Writes::RdRa];
+
+// Each primary opcode; at 19 and 31, which are not asked here, the extended opcode 0.
+const BY_PRIMARY: [u16; 64] = [
+    0,
+    0,
+    0,
+    1, // 3 twi
+    1, // 4 ps_..
+    0,
+    0,
+    65, // 7 mulli
+    66, // 8 subfic
+    0,
+    3, // 10 cmpli
+    4, // 11 cmpi
+    69, // 12 addic
+    70, // 13 addic.
+    71, // 14 addi
+    72, // 15 addis
+    9, // 16 bc
+    1, // 17 sc
+    10, // 18 b
+    1, // 0 mcrf
+    129, // 20 rlwimi
+    139, // 21 rlwinm
+    0,
+    140, // 23 rlwnm
+    141, // 24 ori
+    129, // 25 oris
+    129, // 26 xori
+    129, // 27 xoris
+    129, // 28 andi.
+    129, // 29 andis.
+    0,
+    41, // 0 cmp
+    78, // 32 lwz
+    207, // 33 lwzu
+    80, // 34 lbz
+    209, // 35 lbzu
+    18, // 36 stw
+    147, // 37 stwu
+    20, // 38 stb
+    149, // 39 stbu
+    86, // 40 lhz
+    215, // 41 lhzu
+    88, // 42 lha
+    217, // 43 lhau
+    26, // 44 sth
+    155, // 45 sthu
+    92, // 46 lmw
+    29, // 47 stmw
+    30, // 48 lfs
+    159, // 49 lfsu
+    32, // 50 lfd
+    161, // 51 lfdu
+    34, // 52 stfs
+    163, // 53 stfsu
+    36, // 54 stfd
+    165, // 55 stfdu
+    1, // 56 psq_l
+    1, // 57 psq_lu
+    0,
+    1, // 59 f..s
+    1, // 60 psq_st
+    1, // 61 psq_stu
+    0,
+    1, // 63 f..
+];
+
+// Under 19, the extended opcodes 32 q + 0.
+const UNDER_19_0: [u16; 32] = [
+    1, // 0 mcrf
+    0,
+    0,
+    0,
+    0,
+    0,
+    0,
+    0,
+    0,
+    0,
+    0,
+    0,
+    0,
+    0,
+    0,
+    0,
+    0,
+    0,
+    0,
+    0,
+    0,
+    0,
+    0,
+    0,
+    0,
+    0,
+    0,
+    0,
+    0,
+    0,
+    0,
+    0,
+];
+
+// Under 19, the extended opcodes 32 q + 1.
+const UNDER_19_1: [u16; 32] = [
+    0,
+    1, // 33 crnor
+    0,
+    0,
+    1, // 129 crandc
+    0,
+    1, // 193 crxor
+    1, // 225 crnand
+    1, // 257 crand
+    1, // 289 creqv
+    0,
+    0,
+    0,
+    1, // 417 crorc
+    1, // 449 cror
+    0,
+    0,
+    0,
+    0,
+    0,
+    0,
+    0,
+    0,
+    0,
+    0,
+    0,
+    0,
+    0,
+    0,
+    0,
+    0,
+    0,
+];
+
+// Under 19, the extended opcodes 32 q + 16.
+const UNDER_19_16: [u16; 32] = [
+    38, // 16 bclr
+    0,
+    0,
+    0,
+    0,
+    0,
+    0,
+    0,
+    0,
+    0,
+    0,
+    0,
+    0,
+    0,
+    0,
+    0,
+    40, // 528 bcctr
+    0,
+    0,
+    0,
+    0,
+    0,
+    0,
+    0,
+    0,
+    0,
+    0,
+    0,
+    0,
+    0,
+    0,
+    0,
+];
+
+// Under 19, the extended opcodes 32 q + 18.
+const UNDER_19_18: [u16; 32] = [
+    0,
+    39, // 50 rfi
+    0,
+    0,
+    0,
+    0,
+    0,
+    0,
+    0,
+    0,
+    0,
+    0,
+    0,
+    0,
+    0,
+    0,
+    0,
+    0,
+    0,
+    0,
+    0,
+    0,
+    0,
+    0,
+    0,
+    0,
+    0,
+    0,
+    0,
+    0,
+    0,
+    0,
+];
+
+// Under 19, the extended opcodes 32 q + 22.
+const UNDER_19_22: [u16; 32] = [
+    0,
+    0,
+    0,
+    0,
+    1, // 150 isync
+    0,
+    0,
+    0,
+    0,
+    0,
+    0,
+    0,
+    0,
+    0,
+    0,
+    0,
+    0,
+    0,
+    0,
+    0,
+    0,
+    0,
+    0,
+    0,
+    0,
+    0,
+    0,
+    0,
+    0,
+    0,
+    0,
+    0,
+];
+
+// Under 31, the extended opcodes 32 q + 0.
+const UNDER_31_0: [u16; 32] = [
+    41, // 0 cmp
+    42, // 32 cmpl
+    0,
+    0,
+    0,
+    0,
+    0,
+    0,
+    0,
+    0,
+    0,
+    0,
+    0,
+    0,
+    0,
+    0,
+    1, // 512 mcrxr
+    0,
+    0,
+    0,
+    0,
+    0,
+    0,
+    0,
+    0,
+    0,
+    0,
+    0,
+    0,
+    0,
+    0,
+    0,
+];
+
+// Under 31, the extended opcodes 32 q + 4.
+const UNDER_31_4: [u16; 32] = [
+    1, // 4 tw
+    0,
+    0,
+    0,
+    0,
+    0,
+    0,
+    0,
+    0,
+    0,
+    0,
+    0,
+    0,
+    0,
+    0,
+    0,
+    0,
+    0,
+    0,
+    0,
+    0,
+    0,
+    0,
+    0,
+    0,
+    0,
+    0,
+    0,
+    0,
+    0,
+    0,
+    0,
+];
+
+// Under 31, the extended opcodes 32 q + 8.
+const UNDER_31_8: [u16; 32] = [
+    113, // 8 subfc
+    112, // 40 subf
+    0,
+    65, // 104 neg
+    65, // 136 subfe
+    0,
+    65, // 200 subfze
+    65, // 232 subfme
+    0,
+    0,
+    0,
+    0,
+    0,
+    0,
+    0,
+    0,
+    113, // 520 subfco
+    112, // 552 subfo
+    0,
+    65, // 616 nego
+    65, // 648 subfeo
+    0,
+    65, // 712 subfzeo
+    65, // 744 subfmeo
+    0,
+    0,
+    0,
+    0,
+    0,
+    0,
+    0,
+    0,
+];
+
+// Under 31, the extended opcodes 32 q + 10.
+const UNDER_31_10: [u16; 32] = [
+    65, // 10 addc
+    0,
+    0,
+    0,
+    65, // 138 adde
+    0,
+    65, // 202 addze
+    65, // 234 addme
+    111, // 266 add
+    0,
+    0,
+    0,
+    0,
+    0,
+    0,
+    0,
+    65, // 522 addco
+    0,
+    0,
+    0,
+    65, // 650 addeo
+    0,
+    65, // 714 addzeo
+    65, // 746 addmeo
+    111, // 778 addo
+    0,
+    0,
+    0,
+    0,
+    0,
+    0,
+    0,
+];
+
+// Under 31, the extended opcodes 32 q + 11.
+const UNDER_31_11: [u16; 32] = [
+    65, // 11 mulhwu
+    0,
+    65, // 75 mulhw
+    0,
+    0,
+    0,
+    0,
+    65, // 235 mullw
+    0,
+    0,
+    0,
+    0,
+    0,
+    0,
+    65, // 459 divwu
+    65, // 491 divw
+    0,
+    0,
+    0,
+    0,
+    0,
+    0,
+    0,
+    65, // 747 mullwo
+    0,
+    0,
+    0,
+    0,
+    0,
+    0,
+    65, // 971 divwuo
+    65, // 1003 divwo
+];
+
+// Under 31, the extended opcodes 32 q + 16.
+const UNDER_31_16: [u16; 32] = [
+    0,
+    0,
+    0,
+    0,
+    1, // 144 mtcrf
+    0,
+    0,
+    0,
+    0,
+    0,
+    0,
+    0,
+    0,
+    0,
+    0,
+    0,
+    0,
+    0,
+    0,
+    0,
+    0,
+    0,
+    0,
+    0,
+    0,
+    0,
+    0,
+    0,
+    0,
+    0,
+    0,
+    0,
+];
+
+// Under 31, the extended opcodes 32 q + 18.
+const UNDER_31_18: [u16; 32] = [
+    0,
+    0,
+    0,
+    0,
+    1, // 146 mtmsr
+    0,
+    1, // 210 mtsr
+    1, // 242 mtsrin
+    0,
+    1, // 306 tlbie
+    0,
+    0,
+    0,
+    0,
+    0,
+    0,
+    0,
+    0,
+    0,
+    0,
+    0,
+    0,
+    0,
+    0,
+    0,
+    0,
+    0,
+    0,
+    0,
+    0,
+    0,
+    0,
+];
+
+// Under 31, the extended opcodes 32 q + 19.
+const UNDER_31_19: [u16; 32] = [
+    65, // 19 mfcr
+    0,
+    65, // 83 mfmsr
+    0,
+    0,
+    0,
+    0,
+    0,
+    0,
+    0,
+    108, // 339 mfspr
+    65, // 371 mftb
+    0,
+    0,
+    45, // 467 mtspr
+    0,
+    0,
+    0,
+    65, // 595 mfsr
+    0,
+    65, // 659 mfsrin
+    0,
+    0,
+    0,
+    0,
+    0,
+    0,
+    0,
+    0,
+    0,
+    0,
+    0,
+];
+
+// Under 31, the extended opcodes 32 q + 20.
+const UNDER_31_20: [u16; 32] = [
+    65, // 20 lwarx
+    0,
+    0,
+    0,
+    0,
+    0,
+    0,
+    0,
+    0,
+    0,
+    0,
+    0,
+    0,
+    0,
+    0,
+    0,
+    0,
+    0,
+    0,
+    0,
+    0,
+    0,
+    0,
+    0,
+    0,
+    0,
+    0,
+    0,
+    0,
+    0,
+    0,
+    0,
+];
+
+// Under 31, the extended opcodes 32 q + 21.
+const UNDER_31_21: [u16; 32] = [
+    0,
+    0,
+    0,
+    0,
+    0,
+    0,
+    0,
+    0,
+    0,
+    0,
+    0,
+    0,
+    0,
+    0,
+    0,
+    0,
+    65, // 533 lswx
+    0,
+    65, // 597 lswi
+    0,
+    1, // 661 stswx
+    0,
+    1, // 725 stswi
+    0,
+    0,
+    0,
+    0,
+    0,
+    0,
+    0,
+    0,
+    0,
+];
+
+// Under 31, the extended opcodes 32 q + 22.
+const UNDER_31_22: [u16; 32] = [
+    0,
+    1, // 54 dcbst
+    1, // 86 dcbf
+    0,
+    1, // 150 stwcx.
+    0,
+    0,
+    1, // 246 dcbtst
+    1, // 278 dcbt
+    65, // 310 eciwx
+    0,
+    0,
+    0,
+    1, // 438 ecowx
+    1, // 470 dcbi
+    0,
+    65, // 534 lwbrx
+    1, // 566 tlbsync
+    1, // 598 sync
+    0,
+    1, // 662 stwbrx
+    0,
+    0,
+    0,
+    65, // 790 lhbrx
+    0,
+    1, // 854 eieio
+    0,
+    1, // 918 sthbrx
+    0,
+    1, // 982 icbi
+    1, // 1014 dcbz
+];
+
+// Under 31, the extended opcodes 32 q + 23.
+const UNDER_31_23: [u16; 32] = [
+    107, // 23 lwzx
+    193, // 55 lwzux
+    65, // 87 lbzx
+    193, // 119 lbzux
+    1, // 151 stwx
+    129, // 183 stwux
+    1, // 215 stbx
+    129, // 247 stbux
+    65, // 279 lhzx
+    193, // 311 lhzux
+    65, // 343 lhax
+    193, // 375 lhaux
+    1, // 407 sthx
+    129, // 439 sthux
+    0,
+    0,
+    1, // 535 lfsx
+    129, // 567 lfsux
+    1, // 599 lfdx
+    129, // 631 lfdux
+    1, // 663 stfsx
+    129, // 695 stfsux
+    1, // 727 stfdx
+    129, // 759 stfdux
+    0,
+    0,
+    0,
+    0,
+    0,
+    0,
+    1, // 983 stfiwx
+    0,
+];
+
+// Under 31, the extended opcodes 32 q + 24.
+const UNDER_31_24: [u16; 32] = [
+    129, // 24 slw
+    0,
+    0,
+    0,
+    0,
+    0,
+    0,
+    0,
+    0,
+    0,
+    0,
+    0,
+    0,
+    0,
+    0,
+    0,
+    129, // 536 srw
+    0,
+    0,
+    0,
+    0,
+    0,
+    0,
+    0,
+    129, // 792 sraw
+    129, // 824 srawi
+    0,
+    0,
+    0,
+    0,
+    0,
+    0,
+];
+
+// Under 31, the extended opcodes 32 q + 26.
+const UNDER_31_26: [u16; 32] = [
+    129, // 26 cntlzw
+    0,
+    0,
+    0,
+    0,
+    0,
+    0,
+    0,
+    0,
+    0,
+    0,
+    0,
+    0,
+    0,
+    0,
+    0,
+    0,
+    0,
+    0,
+    0,
+    0,
+    0,
+    0,
+    0,
+    0,
+    0,
+    0,
+    0,
+    129, // 922 extsh
+    129, // 954 extsb
+    0,
+    0,
+];
+
+// Under 31, the extended opcodes 32 q + 28.
+const UNDER_31_28: [u16; 32] = [
+    129, // 28 and
+    129, // 60 andc
+    0,
+    129, // 124 nor
+    0,
+    0,
+    0,
+    0,
+    129, // 284 eqv
+    129, // 316 xor
+    0,
+    0,
+    129, // 412 orc
+    174, // 444 or
+    129, // 476 nand
+    0,
+    0,
+    0,
+    0,
+    0,
+    0,
+    0,
+    0,
+    0,
+    0,
+    0,
+    0,
+    0,
+    0,
+    0,
+    0,
+    0,
+];

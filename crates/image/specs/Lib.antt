@@ -1,4 +1,5 @@
--- The image and its rules. Read Numbers, Layout, Rules in this order.
+-- The image and its rules. Read Numbers, Layout, Rules, Laid in this order.
 pub mod Numbers
 pub mod Layout
 pub mod Rules
+pub mod Laid

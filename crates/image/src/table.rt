@@ -4,10 +4,12 @@ ghost use mathlib.Core.Path.{_≡_};
 ghost use Prim.Native.Nat.{_+_, _*_, _<_};
 ghost use lib.ListN.{length};
 ghost use Rattle.image.specs.Layout.{sections, bounds, unbounds, symbols, boundsFrom, unboundsFrom, symbolsFrom, sectionAt, boundAt, unboundAt, symbolAt};
+ghost use Rattle.image.specs.Rules.{boundPlace, symbolPlace};
 use crate::Bound;
 use crate::Section;
 use crate::Symbol;
 use crate::Unbound;
+use places::SectionAddress;
 
 // How many sections, bound relocations, unbound relocations and object symbols there are.
 pub fn section_count(im: &[u32]) -> usize
@@ -92,6 +94,18 @@ pub fn bound(im: &[u32], j: usize) -> Bound
     }
 }
 
+// Where bound relocation number j stands: its section and address alone.
+pub fn bound_place(im: &[u32], j: usize) -> SectionAddress
+    requires { ⌜ boundsFrom (now im) + j * 6 + 5 < length (now im) ⌝ }
+    ensures { λ r. ⌜ r ≡ boundPlace (now (im .entry)) j ⌝ }
+{
+    let at = bounds_from(im) + j * 6;
+    SectionAddress {
+        section: im[at],
+        address: im[at + 1],
+    }
+}
+
 // Unbound relocation number j.
 pub fn unbound(im: &[u32], j: usize) -> Unbound
     requires { ⌜ unboundsFrom (now im) + j * 6 + 5 < length (now im) ⌝ }
@@ -119,6 +133,18 @@ pub fn symbol(im: &[u32], j: usize) -> Symbol
         address: im[at + 1],
         size: im[at + 2],
         known: im[at + 3],
+    }
+}
+
+// Where object symbol number j stands.
+pub fn symbol_place(im: &[u32], j: usize) -> SectionAddress
+    requires { ⌜ symbolsFrom (now im) + j * 4 + 3 < length (now im) ⌝ }
+    ensures { λ r. ⌜ r ≡ symbolPlace (now (im .entry)) j ⌝ }
+{
+    let at = symbols_from(im) + j * 4;
+    SectionAddress {
+        section: im[at],
+        address: im[at + 1],
     }
 }
 

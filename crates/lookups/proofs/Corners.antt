@@ -1,12 +1,11 @@
 -- Document 01's order of errors and its corners, sentence by sentence, for every image.
 -- Assumes nothing.
-use mathlib.Core.Path.{_≡_, refl, sym, ap, _∙_}
+use mathlib.Core.Path.{_≡_, refl, ap}
 use mathlib.Core.Bool.{true, false}
 use mathlib.Core.List.{List}
-use Prim.Native.Nat.{ℕ, _+_, _^_, _<_, _≤_}
+use Prim.Native.Nat.{ℕ, _+_, _^_, _<_}
 use native.Mathlib.Omega.{arith}
 use borrow.Author.Tests.{lt-ltb, le-ltb, eq-eqb, ne-eqb}
-use lib.Dec.{eqb, ltb}
 use Rattle.words.specs.Choice.{pick}
 use Rattle.words.specs.Sums.{sum}
 use Rattle.words.specs.Signed.{signedOf, offsetBy}
@@ -14,7 +13,6 @@ use Rattle.words.proofs.Signs.{sum-is-signed}
 use Rattle.places.specs.declared.SectionAddress.{SectionAddress}
 use Rattle.places.specs.declared.RelocationTarget.{RelocationTarget}
 use Rattle.places.specs.declared.RelocationTarget.the-variants.{External, Address}
-use Rattle.places.specs.declared.MaybeTarget.{MaybeTarget}
 use Rattle.places.specs.declared.MaybeTarget.the-variants.{Missing, Known}
 use Rattle.search.specs.declared.Found.the-variants as found
 use Rattle.image.specs.declared.Bound.{Bound}
@@ -24,7 +22,7 @@ use Rattle.image.specs.Layout.{imageKind, moduleNumber, sections, sectionAt, bo
 use Rattle.image.specs.Rules.{holds, elfIndex}
 use Rattle.lookups.specs.declared.Wanted.{Wanted}
 use Rattle.lookups.specs.declared.Relocation.the-variants.{Nothing, Error, To}
-use Rattle.lookups.specs.Sections.{atAddress, within}
+use Rattle.lookups.specs.Sections.{atAddress}
 use Rattle.lookups.specs.Relocations.{differs, boundIndex, boundTarget, unboundIndex, unboundTarget, intoSection, relocationFor, targetAt, placeIn, sectionAddressFor}
 
 -- bound: a wanted kind that differs is an error, before External

@@ -1,77 +1,22 @@
 -- In strictly ascending places the match that a search by halves finds is the first match, and the only one: once over
--- the places, as a function of their index. Assumes nothing.
-use mathlib.Core.Path.{_≡_, refl, sym, ap, _∙_}
-use mathlib.Core.Bool.{Bool, true, false, _&&_, _||_}
-use mathlib.Core.Logic.{⊎-elim}
-use Prim.Native.Nat.{ℕ, zero, suc, _+_, _-_, _*_, _^_, _≤_, _<_}
-use native.Mathlib.Nat.{not-suc-le-zero, lt-trans}
-use native.Mathlib.Numerals.{add-one}
+-- the places, as a function of their index, then for places in a table of words. Assumes nothing.
+use mathlib.Core.Path.{_≡_, sym, _∙_, subst}
+use mathlib.Core.Bool.{true, false}
+use mathlib.Core.List.{List}
+use Prim.Native.Nat.{ℕ, suc, _+_, _*_, _^_, _≤_, _<_}
+use native.Mathlib.Nat.{lt-trans, mul-le-mul-right, suc-mul}
 use native.Mathlib.Decide.{decLt}
 use native.Mathlib.Omega.{arith}
-use borrow.Author.Tests.{ltb-true, eqb-true, eq-eqb, ne-eqb}
-use lib.Dec.{ltb, eqb}
+use lib.ListN.{length, getD}
+use mir.Syntax.{w32}
+use mir.Val.{Fits}
 use Rattle.places.specs.declared.SectionAddress.{SectionAddress}
-use Rattle.places.specs.Places.{before}
 use Rattle.search.specs.First.{first}
 use Rattle.search.specs.declared.Found.the-variants.{At, Nothing}
-use Rattle.search.proofs.EveryLaws.{every-at, and-left, and-right, and-false-left, and-false-right}
 use Rattle.search.proofs.FirstMatch.{first-at, first-none}
 use Rattle.image.specs.Rules.{ascending}
-use Rattle.lookups.specs.Keys.{keyOf, hereOf}
-
-abbrev pub key : SectionAddress → ℕ
-key p = keyOf (p .section) (p .address)
-
--- a place before another has the smaller key
-by-section : (a b : SectionAddress) → a .address < 2 ^ 32 → a .section < b .section → key a < key b
-by-section a b f l = omega arith
-
-by-address : (a b : SectionAddress) → a .section ≡ b .section → a .address < b .address → key a < key b
-by-address a b e l = omega arith
-
-by-case : (a b : SectionAddress) → a .address < 2 ^ 32 → (t : Bool) → ltb (a .section) (b .section) ≡ t
-    → t || (eqb (a .section) (b .section) && ltb (a .address) (b .address)) ≡ true → key a < key b
-by-case a b f true t e = by-section a b f (ltb-true _ _ t)
-by-case a b f false t e =
-    let same = eqb-true _ _ (and-left (eqb (a .section) (b .section)) (ltb (a .address) (b .address)) e) in
-    let less = ltb-true _ _ (and-right (eqb (a .section) (b .section)) (ltb (a .address) (b .address)) e) in
-    by-address a b same less
-
-pub before-key : (a b : SectionAddress) → a .address < 2 ^ 32 → before a b ≡ true → key a < key b
-before-key a b f e = by-case a b f (ltb (a .section) (b .section)) refl e
-
--- a place is there exactly where its key is
-pub here-key : (at : ℕ → SectionAddress) (p : SectionAddress) (j : ℕ) → at j .address < 2 ^ 32 → p .address < 2 ^ 32 → key (at j) ≡ key p → hereOf at p j ≡ true
-here-key at p j f g e =
-    let s : at j .section ≡ p .section = omega arith in
-    let a : at j .address ≡ p .address = omega arith in
-    rw (eq-eqb _ _ s, eq-eqb _ _ a)
-
-apart : (a b : SectionAddress) → (key a ≡ key b → ⊥) → Dec (a .section < b .section) → Dec (b .section < a .section) → eqb (a .section) (b .section) && eqb (a .address) (b .address) ≡ false
-apart a b n (yes l) d = and-false-left _ (eqb (a .address) (b .address)) (ne-eqb (a .section) (b .section) (λ e. omega arith))
-apart a b n (no l) (yes m) = and-false-left _ (eqb (a .address) (b .address)) (ne-eqb (a .section) (b .section) (λ e. omega arith))
-apart a b n (no l) (no m) =
-    let s : a .section ≡ b .section = omega arith in
-    and-false-right (eqb (a .section) (b .section)) _ (ne-eqb (a .address) (b .address) (λ e. n (omega arith)))
-
-pub not-here-key : (at : ℕ → SectionAddress) (p : SectionAddress) (j : ℕ) → (key (at j) ≡ key p → ⊥) → hereOf at p j ≡ false
-not-here-key at p j n = apart (at j) p n (decLt (at j .section) (p .section)) (decLt (p .section) (at j .section))
-
--- the keys of strictly ascending places ascend
-step-or-further : (at : ℕ → SectionAddress) (i j : ℕ) → i < suc j → key (at j) < key (at (suc j)) → (i < j → key (at i) < key (at j)) → Dec (i < j) → key (at i) < key (at (suc j))
-step-or-further at i j l step r (yes d) = lt-trans (r d) step
-step-or-further at i j l step r (no d) = let e : i ≡ j = omega arith in rw e step
-
-pub keys-ascend : (at : ℕ → SectionAddress) (n : ℕ) → ((j : ℕ) → at j .address < 2 ^ 32) → ascending at n ≡ true
-    → (i j : ℕ) → i < j → j < n → key (at i) < key (at j)
-unfolding ascending
-keys-ascend at n f t i zero l h = absurd (not-suc-le-zero l)
-keys-ascend at n f t i (suc j) l h =
-    step-or-further at i j l
-    (before-key (at j) (at (suc j)) (f j)
-    (ap (λ (k : ℕ). before (at j) (at k)) (sym (add-one j)) ∙ every-at (λ (k : ℕ). before (at k) (at (k + 1))) (n - 1) j t (omega arith)))
-    (λ d. keys-ascend at n f t i j d (omega arith))
-    (decLt i j)
+use Rattle.lookups.specs.Keys.{keyAt, placesAt, hereOf}
+use Rattle.lookups.proofs.PlaceKeys.{key, here-key, not-here-key, keys-ascend}
 
 -- a search by halves: the keys below lo are smaller than k, those from hi on are not
 pub record Halves (ks : ℕ → ℕ) (n k lo hi : ℕ) : Type 0 where
@@ -123,3 +68,44 @@ module _ (at : ℕ → SectionAddress) (n : ℕ) (p : SectionAddress) (f : (j : 
 
   pub halves-end : (lo hi : ℕ) → Halves (λ (j : ℕ). key (at j)) n (key p) lo hi → n ≤ lo → first (hereOf at p) n ≡ Nothing
   halves-end lo hi h l = first-none (hereOf at p) n (λ j b. other-before lo hi h j (omega arith))
+
+-- a table of places: each lies inside the words where they all do
+pub inside : (ws : List ℕ) (from stride n j : ℕ) → (2 ≤ stride) × (from + n * stride ≤ length ws) → j < n → from + j * stride + 1 < length ws
+inside ws from stride n j all l =
+    let m : suc j * stride ≤ n * stride = mul-le-mul-right stride l in
+    omega (arith, suc-mul j stride, all .0, all .1)
+
+abbrev pub keysAt : List ℕ → ℕ → ℕ → ℕ → ℕ
+keysAt ws from stride j = keyAt ws (from + j * stride)
+
+-- the turns and the ends of a search in a table, k the wanted key and x the one that was read
+module _ (ws : List ℕ) (from stride n : ℕ) (fits : (i : ℕ) → Fits w32 (getD ws i 0)) (up : ascending (placesAt ws from stride) n ≡ true) where
+  addresses-fit : (j : ℕ) → placesAt ws from stride j .address < 2 ^ 32
+  addresses-fit j = fits (from + j * stride + 1) .fits
+
+  ascend : (i j : ℕ) → i < j → j < n → keysAt ws from stride i < keysAt ws from stride j
+  ascend = keys-ascend (placesAt ws from stride) n addresses-fit up
+
+  pub table-up : (k lo hi m x : ℕ) → Halves (keysAt ws from stride) n k lo hi → lo ≤ m → m < hi → x ≡ keysAt ws from stride m → x < k
+      → Halves (keysAt ws from stride) n k (m + 1) hi
+  table-up k lo hi m x h l b e s = halves-up (keysAt ws from stride) n k ascend lo hi m h l b (rw e at s)
+
+  pub table-down : (k lo hi m x : ℕ) → Halves (keysAt ws from stride) n k lo hi → lo ≤ m → m < hi → x ≡ keysAt ws from stride m → k ≤ x
+      → Halves (keysAt ws from stride) n k lo m
+  table-down k lo hi m x h l b e s = halves-down (keysAt ws from stride) n k ascend lo hi m h l b (rw e at s)
+
+  wanted : (p : SectionAddress) (k lo hi : ℕ) → k ≡ key p → Halves (keysAt ws from stride) n k lo hi → Halves (keysAt ws from stride) n (key p) lo hi
+  wanted p k lo hi e h = subst (λ (q : ℕ). Halves (keysAt ws from stride) n q lo hi) e h
+
+  pub table-end : (p : SectionAddress) (k lo hi : ℕ) → (k ≡ key p) × (p .address < 2 ^ 32) → Halves (keysAt ws from stride) n k lo hi → n ≤ lo
+      → first (hereOf (placesAt ws from stride) p) n ≡ Nothing
+  table-end p k lo hi w h l = halves-end (placesAt ws from stride) n p addresses-fit (w .1) ascend lo hi (wanted p k lo hi (w .0) h) l
+
+  pub table-hit : (p : SectionAddress) (k lo hi x : ℕ) → (k ≡ key p) × (p .address < 2 ^ 32) → Halves (keysAt ws from stride) n k lo hi → lo < n
+      → x ≡ keysAt ws from stride lo → x ≡ k → first (hereOf (placesAt ws from stride) p) n ≡ At lo
+  table-hit p k lo hi x w h l e s = halves-hit (placesAt ws from stride) n p addresses-fit (w .1) ascend lo hi (wanted p k lo hi (w .0) h) l (sym e ∙ s ∙ w .0)
+
+  pub table-miss : (p : SectionAddress) (k lo hi x : ℕ) → (k ≡ key p) × (p .address < 2 ^ 32) → Halves (keysAt ws from stride) n k lo hi → hi ≤ lo → lo < n
+      → x ≡ keysAt ws from stride lo → (x ≡ k → ⊥) → first (hereOf (placesAt ws from stride) p) n ≡ Nothing
+  table-miss p k lo hi x w h m l e s =
+      halves-miss (placesAt ws from stride) n p addresses-fit (w .1) ascend lo hi (wanted p k lo hi (w .0) h) m l (λ q. s (e ∙ q ∙ sym (w .0)))

@@ -2,21 +2,21 @@
 -- Assumes nothing.
 use mathlib.Core.Path.{_≡_, _∙_}
 use mathlib.Core.Bool.{Bool, true, false, _&&_, not}
-use mathlib.Core.List.{List}
-use Prim.Native.Nat.{ℕ, _+_, _*_, _%_, _^_, _≤_, _<_}
-use native.Mathlib.Omega.{arith}
+use mathlib.Core.List.{List, [], _∷_}
+use Prim.Native.Nat.{ℕ, _+_, _%_, _^_, _≤_, _<_}
 use lib.Dec.{ltb, leb, eqb}
 use borrow.Author.Tests.{ltb-true, leb-true, eqb-true, not-true}
 use Rattle.words.specs.Choice.{pick}
 use Rattle.places.specs.declared.SectionAddress.{SectionAddress}
 use Rattle.search.proofs.EveryLaws.{every-at, and-left, and-right}
+use Rattle.search.proofs.Conjunction.{chain-at}
 use Rattle.image.specs.declared.Section.{Section}
 use Rattle.image.specs.Numbers.{bssKind, codeKind}
 use Rattle.image.specs.Layout.{sections, sectionAt}
 use Rattle.image.specs.Rules.{sectionSound, sectionsSound, endOf, aligned, holds, tablesSound, dataInside}
 use Rattle.lookups.specs.Bytes.{hasData}
 use Rattle.lookups.specs.Code.{inCode}
-use Rattle.lookups.proofs.SoundTables.{SoundTables, sound-tables}
+use Rattle.image.proofs.SoundTables.{SoundTables, sound-tables}
 
 -- one section: its end, the length of its data, the alignment of code
 pub record SoundSection (s : Section) : Type 0 where
@@ -25,23 +25,19 @@ pub record SoundSection (s : Section) : Type 0 where
   pub code-address : eqb (s .kind) codeKind ≡ true → s .address % 4 ≡ 0
   pub code-size : eqb (s .kind) codeKind ≡ true → s .size % 4 ≡ 0
 
-four : (a b c d : Bool) → a && b && c && d ≡ true → (a ≡ true) × (b ≡ true) × (c ≡ true) × (d ≡ true)
-four a b c d t =
-    let t3 = and-left (a && b && c) d t in
-    let t2 = and-left (a && b) c t3 in
-    (and-left a b t2, and-right a b t2, and-right (a && b) c t3, and-right (a && b && c) d t)
-
 code-aligned : (s : Section) → aligned s ≡ true → eqb (s .kind) codeKind ≡ true → eqb (s .address % 4) 0 && eqb (s .size % 4) 0 ≡ true
 code-aligned s e k = rw k at e
 
 pub sound-section : (s : Section) → sectionSound s ≡ true → SoundSection s
 sound-section s e =
-    let rules = four (ltb (s .kind) 4) (ltb (endOf s) (2 ^ 32)) (eqb (s .length) (pick (eqb (s .kind) bssKind) 0 (s .size))) (aligned s) e in
+    let first = ltb (s .kind) 4 in
+    let rest = ltb (endOf s) (2 ^ 32) ∷ eqb (s .length) (pick (eqb (s .kind) bssKind) 0 (s .size)) ∷ aligned s ∷ [] in
+    let fine = chain-at first rest 2 e in
     record {
-      end-below = ltb-true _ _ (rules .1);
-      all-data = λ k. eqb-true _ _ (rules .2) ∙ rw k;
-      code-address = λ k. eqb-true _ _ (and-left (eqb (s .address % 4) 0) (eqb (s .size % 4) 0) (code-aligned s (rules .3) k));
-      code-size = λ k. eqb-true _ _ (and-right (eqb (s .address % 4) 0) (eqb (s .size % 4) 0) (code-aligned s (rules .3) k));
+      end-below = ltb-true _ _ (chain-at first rest 0 e);
+      all-data = λ k. eqb-true _ _ (chain-at first rest 1 e) ∙ rw k;
+      code-address = λ k. eqb-true _ _ (and-left (eqb (s .address % 4) 0) (eqb (s .size % 4) 0) (code-aligned s fine k));
+      code-size = λ k. eqb-true _ _ (and-right (eqb (s .address % 4) 0) (eqb (s .size % 4) 0) (code-aligned s fine k));
     }
 
 pub section-of : (ws : List ℕ) (i : ℕ) → SoundTables ws → i < sections ws → SoundSection (sectionAt ws i)

@@ -26,10 +26,6 @@ answerOf NotCode = 2
 answerOf Misaligned = 3
 answerOf Fine = 0
 
--- the Code words of a section of that kind and size
-abbrev pub wordsOfSize : ℕ → ℕ → ℕ
-wordsOfSize kind size = pick (eqb kind codeKind) (size / 4) 0
-
 -- the number of the Code word at a place: the words of the sections before it, then those before it in its own
 abbrev pub wordNumber : List ℕ → SectionAddress → ℕ
 wordNumber ws p = wordsBefore ws (p .section) + (p .address - sectionAt ws (p .section) .address) / 4

@@ -1,7 +1,7 @@
 -- Relocations: the bound table is asked first, then the unbound one, with document 01's order of errors.
 -- Assumes nothing.
 use Prim.Native.Nat.{ℕ, _+_, _^_}
-use mathlib.Core.Bool.{Bool, true, false, _&&_, not}
+use mathlib.Core.Bool.{Bool, false, _&&_, not}
 use mathlib.Core.List.{List}
 use lib.Dec.{ltb, eqb}
 use Rattle.words.specs.Choice.{pick}

@@ -9,6 +9,7 @@ ghost use Rattle.image.specs.Rules.{tablesSound, dataInside};
 ghost use Rattle.lookups.specs.Bytes.{hasData, dataFrom, dataOffset, wordAt};
 use crate::MaybeWord;
 use crate::sections::is_within;
+use image::numbers::BSS;
 use image::table::section;
 use image::table::section_count;
 use places::SectionAddress;
@@ -50,7 +51,7 @@ fn has_data(im: &[u32], at: SectionAddress) -> bool
         return false;
     }
     let s = section(im, i);
-    if s.kind == 3 {
+    if s.kind == BSS {
         return false;
     }
     is_within(s.address, s.size, at.address)

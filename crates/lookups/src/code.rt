@@ -2,13 +2,13 @@
 // Requires sound tables.
 ghost use mathlib.Core.Path.{_≡_};
 ghost use mathlib.Core.Bool.{true};
-ghost use Prim.Native.Nat.{_+_, _*_, _^_, _≤_, _<_};
-ghost use lib.ListN.{length};
-ghost use Rattle.image.specs.Rules.{tablesSound, wordsBefore};
-ghost use Rattle.lookups.specs.Code.{inCode, codePlace, wordsOfSize, wordNumber};
+ghost use Rattle.image.specs.Rules.{tablesSound};
+ghost use Rattle.lookups.specs.Code.{inCode, codePlace, wordNumber};
 use crate::CodePlace;
 use crate::WordNumber;
 use crate::sections::is_within;
+use image::code::words_before;
+use image::numbers::CODE;
 use image::table::section;
 use image::table::section_count;
 use places::SectionAddress;
@@ -38,7 +38,7 @@ pub fn is_in_code(im: &[u32], at: SectionAddress) -> bool
         return false;
     }
     let s = section(im, i);
-    if s.kind != 0 {
+    if s.kind != CODE {
         return false;
     }
     is_within(s.address, s.size, at.address)
@@ -53,25 +53,4 @@ pub fn word_number(im: &[u32], at: SectionAddress) -> WordNumber
     let before = words_before(im, i);
     let from = im[i * 6 + 6];
     WordNumber(before as u32 + (at.address - from) / 4)
-}
-
-// The Code words of the first n sections.
-pub fn words_before(im: &[u32], n: usize) -> usize
-    requires { ⌜ (n ≤ 64) × (n * 6 + 6 ≤ length (now im)) ⌝ }
-    ensures { λ r. ⌜ r ≡ wordsBefore (now (im .entry)) n ⌝ }
-{
-    let mut words: usize = 0;
-    let mut i: usize = 0;
-    while i < n {
-        words += words_of(im[i * 6 + 8], im[i * 6 + 7]);
-        i += 1;
-    }
-    words
-}
-
-// The Code words of a section of that kind and size.
-fn words_of(kind: u32, size: u32) -> usize
-    ensures { λ r. ⌜ (r ≡ wordsOfSize kind size) × (r < 2 ^ 30) ⌝ }
-{
-    if kind == 0 { (size / 4) as usize } else { 0 }
 }

@@ -16,6 +16,9 @@ use crate::sorted::bound_index;
 use image::Bound;
 use image::Unbound;
 use image::elf::elf_index;
+use image::numbers::ABSOLUTE;
+use image::numbers::EXECUTABLE;
+use image::numbers::NO_SECTION;
 use image::table::bound;
 use image::table::section;
 use image::table::section_count;
@@ -107,7 +110,7 @@ fn bare_address(im: &[u32], i: u32, value: u32) -> MaybeTarget
     requires { ⌜ tablesSound (now im) ≡ true ⌝ }
     ensures { λ r. ⌜ r ≡ bareAddress (now (im .entry)) i value ⌝ }
 {
-    if im[0] == 0 {
+    if im[0] == EXECUTABLE {
         return match at_address(im, value) {
             Found::At(k) => place_in(k, value),
             Found::Nothing => MaybeTarget::Missing,
@@ -132,7 +135,7 @@ fn bound_target(r: Bound, wanted: Wanted) -> Relocation
     if is_other(wanted, r.kind) {
         return Relocation::Error;
     }
-    if r.symbol_section == 0xffff_ffff {
+    if r.symbol_section == NO_SECTION {
         return Relocation::To(RelocationTarget::External);
     }
     Relocation::To(RelocationTarget::Address(SectionAddress {
@@ -190,8 +193,8 @@ fn is_other(wanted: Wanted, kind: u32) -> bool
 {
     match wanted {
         Wanted::Any => false,
-        Wanted::Absolute => kind != 0,
-        Wanted::Other => kind == 0,
+        Wanted::Absolute => kind != ABSOLUTE,
+        Wanted::Other => kind == ABSOLUTE,
     }
 }
 

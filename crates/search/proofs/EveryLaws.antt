@@ -58,3 +58,7 @@ every-fails p (suc n) i h e =
     (λ l. and-false-left (every p n) (p n) (every-fails p n i l e))
     (λ q. and-false-right (every p n) (p n) (ap p (sym q) ∙ e))
     (decLt i n)
+
+-- all were tested
+pub every-done : (p : ℕ → Bool) (n i : ℕ) → i ≡ n → every p i ≡ true → every p n ≡ true
+every-done p n i e h = ap (every p) (sym e) ∙ h

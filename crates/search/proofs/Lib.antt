@@ -2,3 +2,4 @@
 pub mod FirstLaws
 pub mod FirstMatch
 pub mod EveryLaws
+pub mod Conjunction

@@ -1,3 +1,5 @@
+-- `decoder::branch_dest` meets its contract. The test that the code makes is the definition's.
+-- Assumes nothing.
 use borrow.Author.Needs.{needs}
 use mathlib.Core.Path.{_≡_, sym, ap, _∙_}
 use mathlib.Core.Bool.{Bool}

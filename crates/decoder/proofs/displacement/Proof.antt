@@ -1,3 +1,5 @@
+-- `decoder::displacement` meets its contract. The test that the code makes is the definition's.
+-- Assumes nothing.
 use borrow.Author.Needs.{needs}
 use borrow.Author.Tests.{eq-eqb, ne-eqb}
 use mathlib.Core.Path.{_≡_, sym, ap, _∙_}

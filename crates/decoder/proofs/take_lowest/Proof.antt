@@ -1,3 +1,5 @@
+-- `decoder::take_lowest` meets its contract. A set that is not empty has a lowest register below 32, which is in it.
+-- Assumes nothing.
 use borrow.Author.Needs.{needs}
 use mathlib.Core.Path.{_≡_, sym, ap, _∙_, subst}
 use Prim.Native.Nat.{ℕ, _-_, _*_, _%_, _^_, _<_, _≤_}

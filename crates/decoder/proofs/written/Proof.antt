@@ -1,3 +1,5 @@
+-- `decoder::written` meets its contract. The kind is the word's own.
+-- Assumes nothing.
 use borrow.Author.Needs.{needs}
 use mathlib.Core.Path.{ap, _∙_}
 use Rattle.decoder.specs.Written.{setBy}

@@ -1,3 +1,5 @@
+-- `decoder::class::is_load_store_op` meets its contract. Its four parts are the classes that the calls ensure.
+-- Assumes nothing.
 use borrow.Author.Needs.{needs}
 use mathlib.Core.Path.{ap₂}
 use mathlib.Core.Bool.{Bool, _||_}

@@ -1,3 +1,5 @@
+-- `decoder::class::is_storef_op` meets its contract. An arm's keys are the numbers of the class, and those of `_` all others.
+-- Assumes nothing.
 use Rattle.decoder.specs.Class.{floatStores}
 use Rattle.decoder.proofs.Arms.{class-arm, other-arm}
 use Rattle.decoder.proofs.class.is_storef_op.Statement.{statement}

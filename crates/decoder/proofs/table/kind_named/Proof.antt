@@ -1,3 +1,5 @@
+-- `decoder::table::kind_named` meets its contract. The constant is the list of names.
+-- Assumes nothing.
 use borrow.Author.Needs.{needs}
 use mathlib.Core.Path.{refl, sym}
 use Prim.Native.Nat.{_≤_}

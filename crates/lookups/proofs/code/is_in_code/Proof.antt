@@ -1,35 +1,27 @@
+-- Each test in turn decides one part of the conjunction.
+-- Assumes nothing.
 use Rattle.image.specs.declared.Section.{Section}
 use Rattle.image.specs.Layout.{sections}
 use borrow.Author.Tests.{lt-ltb, le-ltb, eq-eqb, ne-eqb}
 use mathlib.Core.Path.{sym, ap, _∙_}
-use Rattle.lookups.proofs.SoundTables.{sound-tables}
+use Rattle.image.proofs.SoundTables.{sound-tables}
 use native.Mathlib.Omega.{arith}
 use borrow.Author.Needs.{needs}
 use Rattle.lookups.proofs.code.is_in_code.Statement.{statement}
 use Rattle.lookups.proofs.code.is_in_code.Tie as tie
-use Rattle.lookups.proofs.code.is_in_code.Reads as reads
-use Rattle.lookups.proofs.code.is_in_code.Lts as lts
-use Rattle.image.proofs.table.section.Reads as section-reads
-use Rattle.image.proofs.table.section_count.Reads as section-count-reads
-use Rattle.lookups.proofs.sections.is_within.Reads as is-within-reads
 
--- src/code.rt:36:13
 cast-i : tie.Need-cast-i
 cast-i c = search needs
 
--- src/code.rt:37:8
 section-count-requires : tie.Need-section-count-requires
 section-count-requires c κs = let s = sound-tables (c .before .before .args .im .now) (c .before .before .pre) in omega (arith)
 
--- src/code.rt:38:9
 returns : tie.Need-returns
 returns c = let a = c .before .before .before .before .args in rw (le-ltb (a .at .section) (sections (a .im .now)) (omega (arith, c .before .section-count .ensures)))
 
--- src/code.rt:40:9
 section-requires : tie.Need-section-requires
 section-requires c κs = let s = sound-tables (c .before .before .before .before .args .im .now) (c .before .before .before .before .pre) in omega (arith, c .before .section-count .ensures)
 
--- src/code.rt:42:9
 returns-2 : tie.Need-returns-2
 returns-2 c =
     let a = c .before .before .before .before .before .before .before .args in
@@ -39,11 +31,9 @@ returns-2 c =
     let kind = ap (λ (s : Section). s .kind) (c .before .before .section .ensures) in
     rw (there, ne-eqb _ _ (λ e. c .if2 .taken (kind ∙ e)))
 
--- src/code.rt:44:5
 is-within-requires : tie.Need-is-within-requires
 is-within-requires c κs = search needs
 
--- src/code.rt:32:1
 returns-3 : tie.Need-returns-3
 returns-3 c =
     let a = c .before .before .before .before .before .before .before .before .args in

@@ -1,39 +1,32 @@
+-- A word number is below W, so it fits.
+-- Assumes nothing.
 use Rattle.lookups.proofs.WordNumbers.{word-number-below}
 use Rattle.lookups.proofs.SoundSections.{in-code}
-use Rattle.lookups.proofs.SoundTables.{sound-tables}
+use Rattle.image.proofs.SoundTables.{sound-tables}
 use native.Mathlib.Omega.{arith}
 use borrow.Author.Needs.{needs}
 use Rattle.lookups.proofs.code.word_number.Statement.{statement}
 use Rattle.lookups.proofs.code.word_number.Tie as tie
-use Rattle.lookups.proofs.code.word_number.Reads as reads
-use Rattle.lookups.proofs.code.word_number.Lts as lts
-use Rattle.lookups.proofs.code.words_before.Reads as words-before-reads
 
--- src/code.rt:52:13
 cast-i : tie.Need-cast-i
 cast-i c = search needs
 
--- src/code.rt:53:9
 words-before-requires : tie.Need-words-before-requires
 words-before-requires c κs =
     let a = c .before .before .args in
     let s = sound-tables (a .im .now) (c .before .before .pre .0) in
     let k = in-code (a .im .now) (a .at) (c .before .before .pre .0) (c .before .before .pre .1) in
-    (omega arith, omega arith)
+    (s .laid, omega arith)
 
--- src/code.rt:54:19
 mul-from : tie.Need-mul-from
 mul-from c = search needs
 
--- src/code.rt:54:19
 add-from : tie.Need-add-from
 add-from c = search needs
 
--- src/code.rt:54:16
 mul-from-2 : tie.Need-mul-from-2
 mul-from-2 c = search needs
 
--- src/code.rt:54:16
 shared-slice-read-from : tie.Need-shared-slice-read-from
 shared-slice-read-from c =
     let a = c .before .before .before .before .args in
@@ -41,7 +34,6 @@ shared-slice-read-from c =
     let k = in-code (a .im .now) (a .at) (c .before .before .before .before .pre .0) (c .before .before .before .before .pre .1) in
     omega arith
 
--- src/code.rt:55:16
 cast-t10 : tie.Need-cast-t10
 cast-t10 c =
     let a = c .before .before .before .before .args in
@@ -50,7 +42,6 @@ cast-t10 c =
     let b = word-number-below (a .im .now) (a .at) (c .before .before .before .before .pre .0) (c .before .before .before .before .pre .1) in
     record { fits = omega (arith, c .before .words-before .ensures) }
 
--- src/code.rt:55:33
 sub-t11 : tie.Need-sub-t11
 sub-t11 c =
     let a = c .before .before .before .before .before .args in
@@ -58,7 +49,6 @@ sub-t11 c =
     let k = in-code (a .im .now) (a .at) (c .before .before .before .before .before .pre .0) (c .before .before .before .before .before .pre .1) in
     k .place .from
 
--- src/code.rt:55:16
 add-t13 : tie.Need-add-t13
 add-t13 c =
     let a = c .before .before .before .before .before .args in
@@ -67,7 +57,6 @@ add-t13 c =
     let b = word-number-below (a .im .now) (a .at) (c .before .before .before .before .before .pre .0) (c .before .before .before .before .before .pre .1) in
     record { fits = omega (arith, c .before .before .words-before .ensures) }
 
--- src/code.rt:48:1
 returns : tie.Need-returns
 returns c = rw (c .before .before .words-before .ensures)
 

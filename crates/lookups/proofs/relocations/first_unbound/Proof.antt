@@ -1,3 +1,5 @@
+-- The invariant: the search from j on finds what the whole search finds.
+-- Assumes nothing.
 use Rattle.lookups.specs.Relocations.{unboundHere}
 use Rattle.search.proofs.FirstLaws.{first-start, first-end, first-hit, first-miss}
 use Rattle.search.specs.First.{first, firstFrom}
@@ -7,9 +9,6 @@ use native.Mathlib.Omega.{arith}
 use borrow.Author.Needs.{needs}
 use Rattle.lookups.proofs.relocations.first_unbound.Statement.{statement}
 use Rattle.lookups.proofs.relocations.first_unbound.Tie as tie
-use Rattle.lookups.proofs.relocations.first_unbound.Reads as reads
-use Rattle.lookups.proofs.relocations.first_unbound.Lts as lts
-use Rattle.lookups.proofs.relocations.is_entry.Reads as is-entry-reads
 
 abbrev Inv-loop : tie.InvT-loop
 Inv-loop im from n elf a j₀ j = (j ≤ n) × (first (unboundHere im elf a) n ≡ firstFrom (unboundHere im elf a) (n - j) j)
@@ -17,45 +16,36 @@ Inv-loop im from n elf a j₀ j = (j ≤ n) × (first (unboundHere im elf a) n �
 abbrev μ-loop : tie.MeasureT-loop
 μ-loop im from n elf a j₀ j = n - j
 
--- src/relocations.rt:85:5
 loop-holds : tie.Need-loop-holds Inv-loop μ-loop
 loop-holds c = (omega arith, first-start _ _)
 
--- src/relocations.rt:86:32
 mul-is-entry : tie.Need-mul-is-entry Inv-loop μ-loop
 mul-is-entry c = search needs
 
--- src/relocations.rt:86:25
 add-is-entry : tie.Need-add-is-entry Inv-loop μ-loop
 add-is-entry c = search needs
 
--- src/relocations.rt:86:12
 is-entry-requires : tie.Need-is-entry-requires Inv-loop μ-loop
 is-entry-requires c κs = search needs
 
--- src/relocations.rt:87:13
 returns : tie.Need-returns Inv-loop μ-loop
 returns c =
     let l = c .before .before .before .loop in
     let a = c .before .before .before .before .before .args in
     sym (l .inv .1 ∙ first-hit (unboundHere (a .im .now) (a .elf) (a .a)) (a .n) (l .j) (omega arith) (rw (← c .before .before .before .before .before .pre .0) (sym (c .before .is-entry .ensures) ∙ c .if1 .taken)))
 
--- src/relocations.rt:89:9
 add-j : tie.Need-add-j Inv-loop μ-loop
 add-j c = search needs
 
--- src/relocations.rt:85:5
 loop-less : tie.Need-loop-less Inv-loop μ-loop
 loop-less c = search needs
 
--- src/relocations.rt:85:5
 loop-again : tie.Need-loop-again Inv-loop μ-loop
 loop-again c =
     let l = c .before .before .before .loop in
     let a = c .before .before .before .before .before .args in
     (omega arith, l .inv .1 ∙ first-miss (unboundHere (a .im .now) (a .elf) (a .a)) (a .n) (l .j) (omega arith) (rw (← c .before .before .before .before .before .pre .0) (sym (c .before .is-entry .ensures) ∙ c .if1 .left)))
 
--- src/relocations.rt:80:1
 returns-2 : tie.Need-returns-2 Inv-loop μ-loop
 returns-2 c =
     let l = c .before .loop in

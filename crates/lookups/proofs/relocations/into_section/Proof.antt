@@ -1,3 +1,5 @@
+-- The test by a difference is the test of the sum against 2^32.
+-- Assumes nothing.
 use Rattle.image.specs.declared.Section.{Section}
 use Prim.Native.Nat.{_+_, _*_, _^_}
 use mathlib.Core.Path.{ap}
@@ -8,19 +10,13 @@ use native.Mathlib.Omega.{arith}
 use borrow.Author.Needs.{needs}
 use Rattle.lookups.proofs.relocations.into_section.Statement.{statement}
 use Rattle.lookups.proofs.relocations.into_section.Tie as tie
-use Rattle.lookups.proofs.relocations.into_section.Reads as reads
-use Rattle.lookups.proofs.relocations.into_section.Lts as lts
-use Rattle.image.proofs.table.section.Reads as section-reads
 
--- src/relocations.rt:169:16
 section-requires : tie.Need-section-requires
 section-requires c κs = search needs
 
--- src/relocations.rt:170:8
 sub-if1 : tie.Need-sub-if1
 sub-if1 c = search needs
 
--- src/relocations.rt:171:9
 returns : tie.Need-returns
 returns c =
     let a = c .before .before .before .args in
@@ -28,15 +24,12 @@ returns c =
     let f = c .before .before .shared-slice-known .given (a .i * 6 + 6) in
     rw (le-ltb (sectionAt (a .im .now) (a .i) .address + a .addend) (2 ^ 32) (omega arith))
 
--- src/relocations.rt:174:18
 cast-t6 : tie.Need-cast-t6
 cast-t6 c = search needs
 
--- src/relocations.rt:175:18
 add-t8 : tie.Need-add-t8
 add-t8 c = search needs
 
--- src/relocations.rt:165:1
 returns-2 : tie.Need-returns-2
 returns-2 c =
     let a = c .before .before .before .args in

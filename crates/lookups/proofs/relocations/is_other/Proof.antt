@@ -1,31 +1,24 @@
-use native.Mathlib.Omega.{arith}
+-- By cases on the wanted kind.
+-- Assumes nothing.
 use borrow.Author.Needs.{needs}
 use Rattle.lookups.proofs.relocations.is_other.Statement.{statement}
 use Rattle.lookups.proofs.relocations.is_other.Tie as tie
-use Rattle.lookups.proofs.relocations.is_other.Reads as reads
-use Rattle.lookups.proofs.relocations.is_other.Lts as lts
 
--- src/relocations.rt:184:24
 enum-told : tie.Need-enum-told
 enum-told c = search needs
 
--- src/relocations.rt:185:29
 enum-told-2 : tie.Need-enum-told-2
 enum-told-2 c = search needs
 
--- src/relocations.rt:186:26
 enum-told-3 : tie.Need-enum-told-3
 enum-told-3 c = search needs
 
--- src/relocations.rt:180:1
 returns : tie.Need-returns
 returns c = rw (c .enum-told .given .1)
 
--- src/relocations.rt:180:1
 returns-2 : tie.Need-returns-2
 returns-2 c = rw (c .enum-told2 .given .1)
 
--- src/relocations.rt:180:1
 returns-3 : tie.Need-returns-3
 returns-3 c = rw (c .enum-told3 .given .1)
 

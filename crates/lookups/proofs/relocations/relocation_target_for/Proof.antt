@@ -1,44 +1,32 @@
+-- A place in no section, a bound entry, the unbound table: one answer for each.
+-- Assumes nothing.
 use Rattle.lookups.specs.Relocations.{boundHere, relocationFor}
 use Rattle.image.specs.Layout.{sections, bounds}
 use Rattle.search.proofs.FirstMatch.{first-below}
 use borrow.Author.Tests.{lt-ltb, le-ltb}
 use mathlib.Core.Path.{sym, _∙_}
-use Rattle.lookups.proofs.SoundTables.{sound-tables}
+use Rattle.image.proofs.SoundTables.{sound-tables}
 use native.Mathlib.Omega.{arith}
 use borrow.Author.Needs.{needs}
 use Rattle.lookups.proofs.relocations.relocation_target_for.Statement.{statement}
 use Rattle.lookups.proofs.relocations.relocation_target_for.Tie as tie
-use Rattle.lookups.proofs.relocations.relocation_target_for.Reads as reads
-use Rattle.lookups.proofs.relocations.relocation_target_for.Lts as lts
-use Rattle.image.proofs.table.bound.Reads as bound-reads
-use Rattle.image.proofs.table.section.Reads as section-reads
-use Rattle.image.proofs.table.section_count.Reads as section-count-reads
-use Rattle.lookups.proofs.relocations.bound_target.Reads as bound-target-reads
-use Rattle.lookups.proofs.relocations.unbound_target_for.Reads as unbound-target-for-reads
-use Rattle.lookups.proofs.sorted.bound_index.Reads as bound-index-reads
 
--- src/relocations.rt:37:13
 cast-i : tie.Need-cast-i
 cast-i c = search needs
 
--- src/relocations.rt:38:8
 section-count-requires : tie.Need-section-count-requires
 section-count-requires c κs = let s = sound-tables (c .before .before .args .im .now) (c .before .before .pre) in omega (arith)
 
--- src/relocations.rt:39:9
 returns : tie.Need-returns
 unfolding relocationFor
 returns c = rw (le-ltb (c .before .before .before .before .args .at .section) (sections (c .before .before .before .before .args .im .now)) (omega (arith, c .before .section-count .ensures)))
 
--- src/relocations.rt:41:11
 bound-index-requires : tie.Need-bound-index-requires
 bound-index-requires c κs = search needs
 
--- src/relocations.rt:42:19
 enum-known-j : tie.Need-enum-known-j
 enum-known-j c = search needs
 
--- src/relocations.rt:42:38
 bound-requires : tie.Need-bound-requires
 bound-requires c κs =
     let a = c .before .before .before .before .before .before .before .before .args in
@@ -46,28 +34,22 @@ bound-requires c κs =
     let b = first-below (boundHere (a .im .now) (a .at)) (bounds (a .im .now)) (c .before .j .given .0 .0) (sym (c .before .before .before .bound-index .ensures) ∙ c .before .j .given .1) in
     omega arith
 
--- src/relocations.rt:42:25
 bound-target-requires : tie.Need-bound-target-requires
 bound-target-requires c κs = search needs
 
--- src/relocations.rt:43:50
 enum-told : tie.Need-enum-told
 enum-told c = search needs
 
--- src/relocations.rt:43:50
 section-requires : tie.Need-section-requires
 section-requires c κs = let s = sound-tables (c .before .before .before .before .before .before .before .args .im .now) (c .before .before .before .before .before .before .before .pre) in omega (arith, c .before .before .before .before .section-count .ensures)
 
--- src/relocations.rt:43:27
 unbound-target-for-requires : tie.Need-unbound-target-for-requires
 unbound-target-for-requires c κs = search needs
 
--- src/relocations.rt:33:1
 returns-2 : tie.Need-returns-2
 unfolding relocationFor
 returns-2 c = rw (c .bound-target .ensures, c .before .bound .ensures, lt-ltb (c .before .before .before .before .before .before .before .before .before .before .args .at .section) (sections (c .before .before .before .before .before .before .before .before .before .before .args .im .now)) (omega (arith, c .before .before .before .before .before .before .before .section-count .ensures)), sym (c .before .before .before .before .before .bound-index .ensures) ∙ c .before .before .before .j .given .1)
 
--- src/relocations.rt:33:1
 returns-3 : tie.Need-returns-3
 unfolding relocationFor
 returns-3 c = rw (c .unbound-target-for .ensures, c .before .section .ensures, lt-ltb (c .before .before .before .before .before .before .before .before .before .args .at .section) (sections (c .before .before .before .before .before .before .before .before .before .args .im .now)) (omega (arith, c .before .before .before .before .before .before .section-count .ensures)), sym (c .before .before .before .before .bound-index .ensures) ∙ c .before .before .enum-told .given .1)

@@ -1,36 +1,27 @@
+-- The relocation if there is one, else the bare value.
+-- Assumes nothing.
 use Rattle.lookups.specs.Relocations.{sectionAddressFor}
 use mathlib.Core.Path.{sym, _∙_}
-use native.Mathlib.Omega.{arith}
 use borrow.Author.Needs.{needs}
 use Rattle.lookups.proofs.relocations.section_address_for.Statement.{statement}
 use Rattle.lookups.proofs.relocations.section_address_for.Tie as tie
-use Rattle.lookups.proofs.relocations.section_address_for.Reads as reads
-use Rattle.lookups.proofs.relocations.section_address_for.Lts as lts
-use Rattle.lookups.proofs.relocations.bare_address.Reads as bare-address-reads
-use Rattle.lookups.proofs.relocations.target_at.Reads as target-at-reads
 
--- src/relocations.rt:65:11
 target-at-requires : tie.Need-target-at-requires
 target-at-requires c κs = search needs
 
--- src/relocations.rt:66:28
 enum-known-t : tie.Need-enum-known-t
 enum-known-t c = search needs
 
--- src/relocations.rt:67:33
 enum-told : tie.Need-enum-told
 enum-told c = search needs
 
--- src/relocations.rt:67:33
 bare-address-requires : tie.Need-bare-address-requires
 bare-address-requires c κs = search needs
 
--- src/relocations.rt:61:1
 returns : tie.Need-returns
 unfolding sectionAddressFor
 returns c = rw (sym (c .before .before .before .target-at .ensures) ∙ c .before .t .given .1)
 
--- src/relocations.rt:61:1
 returns-2 : tie.Need-returns-2
 unfolding sectionAddressFor
 returns-2 c = rw (c .bare-address .ensures, sym (c .before .before .before .target-at .ensures) ∙ c .before .enum-told .given .1)

@@ -1,30 +1,22 @@
+-- Sound tables are laid out, so the whole table is there to be searched.
+-- Assumes nothing.
 use Rattle.lookups.specs.Relocations.{unboundHere}
 use Rattle.search.specs.First.{first}
 use mathlib.Core.Path.{ap, _∙_}
-use Rattle.lookups.proofs.SoundTables.{sound-tables}
+use Rattle.image.proofs.SoundTables.{sound-tables}
 use native.Mathlib.Omega.{arith}
-use borrow.Author.Needs.{needs}
 use Rattle.lookups.proofs.relocations.unbound_index.Statement.{statement}
 use Rattle.lookups.proofs.relocations.unbound_index.Tie as tie
-use Rattle.lookups.proofs.relocations.unbound_index.Reads as reads
-use Rattle.lookups.proofs.relocations.unbound_index.Lts as lts
-use Rattle.image.proofs.table.unbound_count.Reads as unbound-count-reads
-use Rattle.image.proofs.table.unbounds_from.Reads as unbounds-from-reads
-use Rattle.lookups.proofs.relocations.first_unbound.Reads as first-unbound-reads
 
--- src/relocations.rt:77:23
 unbounds-from-requires : tie.Need-unbounds-from-requires
 unbounds-from-requires c κs = let s = sound-tables (c .before .args .im .now) (c .before .pre) in omega (arith)
 
--- src/relocations.rt:77:42
 unbound-count-requires : tie.Need-unbound-count-requires
 unbound-count-requires c κs = let s = sound-tables (c .before .before .args .im .now) (c .before .before .pre) in omega (arith)
 
--- src/relocations.rt:77:5
 first-unbound-requires : tie.Need-first-unbound-requires
 first-unbound-requires c κs = let s = sound-tables (c .before .before .before .args .im .now) (c .before .before .before .pre) in (c .before .unbounds-from .ensures, omega (arith, c .before .unbounds-from .ensures, c .unbound-count .ensures))
 
--- src/relocations.rt:73:1
 returns : tie.Need-returns
 returns c = c .first-unbound .ensures ∙ ap (first (unboundHere (c .before .before .before .before .args .im .now) (c .before .before .before .before .args .elf) (c .before .before .before .before .args .a))) (c .before .unbound-count .ensures)
 

@@ -1,35 +1,27 @@
+-- An entry that was found lies in the table.
+-- Assumes nothing.
 use Rattle.lookups.specs.Relocations.{unboundHere}
 use Rattle.image.specs.Layout.{unbounds}
 use Rattle.search.proofs.FirstMatch.{first-below}
 use mathlib.Core.Path.{sym, _∙_}
-use Rattle.lookups.proofs.SoundTables.{sound-tables}
+use Rattle.image.proofs.SoundTables.{sound-tables}
 use native.Mathlib.Omega.{arith}
 use borrow.Author.Needs.{needs}
 use Rattle.lookups.proofs.relocations.unbound_target_for.Statement.{statement}
 use Rattle.lookups.proofs.relocations.unbound_target_for.Tie as tie
-use Rattle.lookups.proofs.relocations.unbound_target_for.Reads as reads
-use Rattle.lookups.proofs.relocations.unbound_target_for.Lts as lts
-use Rattle.image.proofs.table.unbound.Reads as unbound-reads
-use Rattle.lookups.proofs.relocations.unbound_index.Reads as unbound-index-reads
-use Rattle.lookups.proofs.relocations.unbound_target.Reads as unbound-target-reads
 
--- src/relocations.rt:141:24
 unbound-index-requires : tie.Need-unbound-index-requires
 unbound-index-requires c κs = search needs
 
--- src/relocations.rt:141:19
 enum-known-j : tie.Need-enum-known-j
 enum-known-j c = search needs
 
--- src/relocations.rt:142:9
 enum-told : tie.Need-enum-told
 enum-told c = search needs
 
--- src/relocations.rt:142:9
 returns : tie.Need-returns
 returns c = rw (sym (c .before .before .unbound-index .ensures) ∙ c .enum-told .given .1)
 
--- src/relocations.rt:144:24
 unbound-requires : tie.Need-unbound-requires
 unbound-requires c κs =
     let a = c .before .before .before .before .before .args in
@@ -37,11 +29,9 @@ unbound-requires c κs =
     let b = first-below (unboundHere (a .im .now) (a .elf) (a .a)) (unbounds (a .im .now)) (c .before .j .given .0 .0) (sym (c .before .before .before .unbound-index .ensures) ∙ c .before .j .given .1) in
     omega arith
 
--- src/relocations.rt:144:5
 unbound-target-requires : tie.Need-unbound-target-requires
 unbound-target-requires c κs = search needs
 
--- src/relocations.rt:137:1
 returns-2 : tie.Need-returns-2
 returns-2 c = rw (c .unbound-target .ensures, c .before .unbound .ensures, sym (c .before .before .before .before .before .unbound-index .ensures) ∙ c .before .before .before .j .given .1)
 

@@ -1,25 +1,19 @@
+-- Sound tables are laid out, so the whole table is there to be searched.
+-- Assumes nothing.
 use Rattle.lookups.specs.Sections.{held}
 use Rattle.search.specs.First.{first}
 use mathlib.Core.Path.{ap, _∙_}
-use Rattle.lookups.proofs.SoundTables.{sound-tables}
+use Rattle.image.proofs.SoundTables.{sound-tables}
 use native.Mathlib.Omega.{arith}
-use borrow.Author.Needs.{needs}
 use Rattle.lookups.proofs.sections.at_address.Statement.{statement}
 use Rattle.lookups.proofs.sections.at_address.Tie as tie
-use Rattle.lookups.proofs.sections.at_address.Reads as reads
-use Rattle.lookups.proofs.sections.at_address.Lts as lts
-use Rattle.image.proofs.table.section_count.Reads as section-count-reads
-use Rattle.lookups.proofs.sections.first_holding.Reads as first-holding-reads
 
--- src/sections.rt:19:23
 section-count-requires : tie.Need-section-count-requires
 section-count-requires c κs = let s = sound-tables (c .before .args .im .now) (c .before .pre) in omega arith
 
--- src/sections.rt:19:5
 first-holding-requires : tie.Need-first-holding-requires
 first-holding-requires c κs = let s = sound-tables (c .before .before .args .im .now) (c .before .before .pre) in omega (arith, c .section-count .ensures)
 
--- src/sections.rt:15:1
 returns : tie.Need-returns
 returns c = c .first-holding .ensures ∙ ap (first (held (c .before .before .before .args .im .now) (c .before .before .before .args .a))) (c .before .section-count .ensures)
 

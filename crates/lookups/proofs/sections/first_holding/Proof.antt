@@ -1,3 +1,5 @@
+-- The invariant: the search from i on finds what the whole search finds.
+-- Assumes nothing.
 use Rattle.lookups.specs.Sections.{held}
 use Rattle.search.proofs.FirstLaws.{first-start, first-end, first-hit, first-miss}
 use Rattle.search.specs.First.{first, firstFrom}
@@ -7,9 +9,6 @@ use native.Mathlib.Omega.{arith}
 use borrow.Author.Needs.{needs}
 use Rattle.lookups.proofs.sections.first_holding.Statement.{statement}
 use Rattle.lookups.proofs.sections.first_holding.Tie as tie
-use Rattle.lookups.proofs.sections.first_holding.Reads as reads
-use Rattle.lookups.proofs.sections.first_holding.Lts as lts
-use Rattle.lookups.proofs.sections.is_within.Reads as is-within-reads
 
 abbrev Inv-loop : tie.InvT-loop
 Inv-loop im n a i₀ i = (i ≤ n) × (first (held im a) n ≡ firstFrom (held im a) (n - i) i)
@@ -17,69 +16,54 @@ Inv-loop im n a i₀ i = (i ≤ n) × (first (held im a) n ≡ firstFrom (held i
 abbrev μ-loop : tie.MeasureT-loop
 μ-loop im n a i₀ i = n - i
 
--- src/sections.rt:27:5
 loop-holds : tie.Need-loop-holds Inv-loop μ-loop
 loop-holds c = (omega arith, first-start _ _)
 
--- src/sections.rt:28:25
 mul-is-within : tie.Need-mul-is-within Inv-loop μ-loop
 mul-is-within c = search needs
 
--- src/sections.rt:28:25
 add-is-within : tie.Need-add-is-within Inv-loop μ-loop
 add-is-within c = search needs
 
--- src/sections.rt:28:22
 mul-is-within-2 : tie.Need-mul-is-within-2 Inv-loop μ-loop
 mul-is-within-2 c = search needs
 
--- src/sections.rt:28:22
 shared-slice-read-is-within : tie.Need-shared-slice-read-is-within Inv-loop μ-loop
 shared-slice-read-is-within c = search needs
 
--- src/sections.rt:28:40
 mul-is-within-3 : tie.Need-mul-is-within-3 Inv-loop μ-loop
 mul-is-within-3 c = search needs
 
--- src/sections.rt:28:40
 add-is-within-2 : tie.Need-add-is-within-2 Inv-loop μ-loop
 add-is-within-2 c = search needs
 
--- src/sections.rt:28:37
 mul-is-within-4 : tie.Need-mul-is-within-4 Inv-loop μ-loop
 mul-is-within-4 c = search needs
 
--- src/sections.rt:28:37
 shared-slice-read-is-within-2 : tie.Need-shared-slice-read-is-within-2 Inv-loop μ-loop
 shared-slice-read-is-within-2 c = search needs
 
--- src/sections.rt:28:12
 is-within-requires : tie.Need-is-within-requires Inv-loop μ-loop
 is-within-requires c κs = search needs
 
--- src/sections.rt:29:13
 returns : tie.Need-returns Inv-loop μ-loop
 returns c =
     let h = c .before .before .before .before .before in
     let a = h .before .before .args in
     sym (h .loop .inv .1 ∙ first-hit (held (a .im .now) (a .a)) (a .n) (h .loop .i) (omega arith) (sym (c .before .is-within .ensures) ∙ c .if1 .taken))
 
--- src/sections.rt:31:9
 add-i : tie.Need-add-i Inv-loop μ-loop
 add-i c = search needs
 
--- src/sections.rt:27:5
 loop-less : tie.Need-loop-less Inv-loop μ-loop
 loop-less c = search needs
 
--- src/sections.rt:27:5
 loop-again : tie.Need-loop-again Inv-loop μ-loop
 loop-again c =
     let h = c .before .before .before .before .before in
     let a = h .before .before .args in
     (omega arith, h .loop .inv .1 ∙ first-miss (held (a .im .now) (a .a)) (a .n) (h .loop .i) (omega arith) (sym (c .before .is-within .ensures) ∙ c .if1 .left))
 
--- src/sections.rt:22:1
 returns-2 : tie.Need-returns-2 Inv-loop μ-loop
 returns-2 c =
     let h = c .before in

@@ -1,36 +1,29 @@
+-- A symbol that was found lies in the table.
+-- Assumes nothing.
 use Rattle.lookups.specs.Sections.{symbolHere}
 use Rattle.image.specs.declared.Symbol.{Symbol}
 use Rattle.image.specs.Layout.{symbols}
 use Rattle.search.proofs.FirstMatch.{first-below}
 use borrow.Author.Tests.{eq-eqb, ne-eqb}
 use mathlib.Core.Path.{sym, ap, _∙_}
-use Rattle.lookups.proofs.SoundTables.{sound-tables}
+use Rattle.image.proofs.SoundTables.{sound-tables}
 use native.Mathlib.Omega.{arith}
 use borrow.Author.Needs.{needs}
 use Rattle.lookups.proofs.sorted.known_size.Statement.{statement}
 use Rattle.lookups.proofs.sorted.known_size.Tie as tie
-use Rattle.lookups.proofs.sorted.known_size.Reads as reads
-use Rattle.lookups.proofs.sorted.known_size.Lts as lts
-use Rattle.image.proofs.table.symbol.Reads as symbol-reads
-use Rattle.lookups.proofs.sorted.symbol_index.Reads as symbol-index-reads
 
--- src/sorted.rt:41:24
 symbol-index-requires : tie.Need-symbol-index-requires
 symbol-index-requires c κs = search needs
 
--- src/sorted.rt:41:19
 enum-known-j : tie.Need-enum-known-j
 enum-known-j c = search needs
 
--- src/sorted.rt:42:9
 enum-told : tie.Need-enum-told
 enum-told c = search needs
 
--- src/sorted.rt:42:9
 returns : tie.Need-returns
 returns c = rw (sym (c .before .before .symbol-index .ensures) ∙ c .enum-told .given .1)
 
--- src/sorted.rt:44:9
 symbol-requires : tie.Need-symbol-requires
 symbol-requires c κs =
     let a = c .before .before .before .before .before .args in
@@ -38,13 +31,11 @@ symbol-requires c κs =
     let b = first-below (symbolHere (a .im .now) (a .at)) (symbols (a .im .now)) (c .before .j .given .0 .0) (sym (c .before .before .before .symbol-index .ensures) ∙ c .before .j .given .1) in
     omega arith
 
--- src/sorted.rt:37:1
 returns-2 : tie.Need-returns-2
 returns-2 c =
     let known = sym (ap (λ (s : Symbol). s .known) (c .before .before .symbol .ensures)) ∙ c .if1 .taken in
     rw (c .before .before .symbol .ensures, sym (c .before .before .before .before .before .before .symbol-index .ensures) ∙ c .before .before .before .before .j .given .1, eq-eqb _ _ known)
 
--- src/sorted.rt:37:1
 returns-3 : tie.Need-returns-3
 returns-3 c =
     let known = ap (λ (s : Symbol). s .known) (c .before .before .symbol .ensures) in
