@@ -16,7 +16,7 @@ use Rattle.image.specs.Layout.{sections, sectionAt}
 use Rattle.image.specs.Rules.{holds, endOf, tablesSound, dataInside}
 use Rattle.lookups.specs.declared.MaybeWord.the-variants.{Read}
 use Rattle.lookups.specs.Bytes.{hasData, dataFrom, offsetIn, wordAt}
-use Rattle.lookups.proofs.SoundTables.{sound-tables}
+use Rattle.image.proofs.SoundTables.{sound-tables}
 use Rattle.lookups.proofs.SoundSections.{InSection, section-of, has-data}
 use Rattle.jump_tables.specs.Tables.{isTable}
 

@@ -7,7 +7,7 @@ ghost use Rattle.image.specs.Rules.{tablesSound, dataInside};
 ghost use Rattle.jump_tables.specs.Readings.{bareEntry, inFunction, sizedTarget, sizedWord, guessedTarget, guessedWord, sizedReading, guessedReading, readingOf};
 use crate::How;
 use crate::Reading;
-use image::table::section_count;
+use image::numbers::EXECUTABLE;
 use lookups::MaybeWord;
 use lookups::Relocation;
 use lookups::Wanted;
@@ -113,7 +113,7 @@ fn bare_entry(im: &[u32], v: u32) -> MaybeAddress
     requires { ⌜ tablesSound (now im) ≡ true ⌝ }
     ensures { λ r. ⌜ r ≡ bareEntry (now (im .entry)) v ⌝ }
 {
-    if im[0] != 0 {
+    if im[0] != EXECUTABLE {
         return MaybeAddress::Nowhere;
     }
     match at_address(im, v) {

@@ -3,7 +3,7 @@ use mathlib.Core.Path.{sym, _∙_}
 use Rattle.search.proofs.FirstMatch.{first-below}
 use Rattle.image.specs.Layout.{sections}
 use Rattle.lookups.specs.Sections.{held}
-use Rattle.lookups.proofs.SoundTables.{sound-tables}
+use Rattle.image.proofs.SoundTables.{sound-tables}
 use native.Mathlib.Omega.{arith}
 use borrow.Author.Needs.{needs}
 use Rattle.jump_tables.proofs.readings.bare_entry.Statement.{statement}
