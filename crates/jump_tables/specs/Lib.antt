@@ -1,3 +1,5 @@
--- What a jump table is read as. Read Readings, then Tables.
+-- What a jump table is read as. Read Readings, Keys, Tables, Examined in this order.
 pub mod Readings
+pub mod Keys
 pub mod Tables
+pub mod Examined

@@ -1,6 +1,7 @@
 -- A jump table: the words passed, the first bad one, then the entries, ascending and distinct.
 -- Assumes nothing.
-use Prim.Native.Nat.{ℕ, zero, suc, _+_, _-_, _*_, _/_, _%_, _^_, min}
+use Prim.Native.Nat.{ℕ, zero, suc, _+_, _-_, _*_, _/_, _%_, _^_, _<_, min}
+use mathlib.Core.Path.{_≡_}
 use mathlib.Core.Bool.{Bool, _&&_, _||_}
 use mathlib.Core.List.{List, [], _∷_, _++_}
 use lib.ListN.{length, replicate}
@@ -12,12 +13,16 @@ use Rattle.image.specs.Numbers.{dataKind, readOnlyKind}
 use Rattle.image.specs.Layout.{sections, sectionAt}
 use Rattle.image.specs.Rules.{holds, endOf, sound}
 use Rattle.lookups.specs.Sections.{knownSize}
+use Rattle.jump_tables.specs.declared.How.{How}
+use Rattle.jump_tables.specs.declared.How.the-variants.{Sized, Guessed}
+use Rattle.jump_tables.specs.declared.Held.{Held}
 use Rattle.jump_tables.specs.declared.Reading.{Reading}
 use Rattle.jump_tables.specs.declared.Reading.the-variants.{Stopped, Skipped, Faulty, Nowhere, Entry}
 use Rattle.jump_tables.specs.declared.TableAnswer.{TableAnswer}
 use Rattle.jump_tables.specs.declared.TableAnswer.the-variants as answer
 use Rattle.jump_tables.specs.declared.Table.{Table}
-use Rattle.jump_tables.specs.Readings.{sizedReading, guessedReading}
+use Rattle.jump_tables.specs.Keys.{keyOf, insertKey}
+use Rattle.jump_tables.specs.Readings.{readingOf}
 
 -- document 01's number of each answer
 abbrev pub answerOf : TableAnswer → ℕ
@@ -53,15 +58,6 @@ unfoldable pub verdict : List Reading → TableAnswer
 verdict [] = answer.Read
 verdict (r ∷ rs) = verdictOf r (verdict rs)
 
--- an entry as a number, whose order is by section, then address
-abbrev pub keyOf : SectionAddress → ℕ
-keyOf p = p .section * 2 ^ 32 + p .address
-
--- a key put into an ascending list, once
-unfoldable pub insertKey : ℕ → List ℕ → List ℕ
-insertKey x [] = x ∷ []
-insertKey x (y ∷ ys) = pick (ltb y x) (y ∷ insertKey x ys) (pick (eqb x y) (y ∷ ys) (x ∷ y ∷ ys))
-
 abbrev pub withReading : Reading → List ℕ → List ℕ
 withReading Stopped ks = ks
 withReading Skipped ks = ks
@@ -79,8 +75,11 @@ pub record Outcome : Type 0 where
   pub table : Table
   pub keys : List ℕ
 
+abbrev pub refusedTable : TableAnswer → Table
+refusedTable a = record { answer = a; count = 0; size = 0 }
+
 abbrev pub refused : TableAnswer → ℕ → Outcome
-refused a room = record { table = record { answer = a; count = 0; size = 0 }; keys = replicate room 0 }
+refused a room = record { table = refusedTable a; keys = replicate room 0 }
 
 -- the keys, then zeros
 abbrev pub filled : List ℕ → ℕ → List ℕ
@@ -105,9 +104,25 @@ onVerdict answer.Full o room = refused answer.Full room
 unfoldable pub readOff : List Reading → ℕ → Outcome
 readOff rs room = onVerdict (verdict rs) (fitted (entriesOf rs []) (length rs * 4) room) room
 
+-- where no entry was bad: what a buffer holds after k words, or that it was over
+abbrev pub doneTable : Held → ℕ → Table
+doneTable h k = pick (h .over) (refusedTable answer.Full) (record { answer = answer.Read; count = h .count; size = k * 4 })
+
 -- word k of the table
 abbrev pub wordPlace : SectionAddress → ℕ → SectionAddress
 wordPlace p k = record { section = p .section; address = p .address + k * 4 }
+
+abbrev pub wordReading : List ℕ → List ℕ → How → SectionAddress → ℕ → Reading
+wordReading ws bs how p k = readingOf ws bs how (wordPlace p k)
+
+-- at most n words of it
+abbrev pub wordsPassed : List ℕ → List ℕ → How → SectionAddress → ℕ → List Reading
+wordsPassed ws bs how p n = passed (wordReading ws bs how p) n 0
+
+-- each of the n places fits, and so does the size where no entry is bad
+pub record Fitting (ws bs : List ℕ) (how : How) (p : SectionAddress) (n : ℕ) : Type 0 where
+  pub places : p .address + n * 4 < 2 ^ 32 + 4
+  pub size : verdict (wordsPassed ws bs how p n) ≡ answer.Read → length (wordsPassed ws bs how p n) * 4 < 2 ^ 32
 
 -- the table's end is the true sum, cut to the section; a cut size that is no multiple of 4: 8
 abbrev pub clampedSize : List ℕ → SectionAddress → ℕ → ℕ
@@ -116,13 +131,13 @@ clampedSize ws p n = min (p .address + n) (endOf (sectionAt ws (p .section))) - 
 unfoldable pub sizedTable : List ℕ → List ℕ → SectionAddress → ℕ → ℕ → Outcome
 sizedTable ws bs p n room =
     pick (eqb (clampedSize ws p n % 4) 0)
-    (readOff (passed (λ (k : ℕ). sizedReading ws bs (wordPlace p k)) (clampedSize ws p n / 4) 0) room)
+    (readOff (wordsPassed ws bs Sized p (clampedSize ws p n / 4)) room)
     (refused answer.Ragged room)
 
 -- a guess passes at most the words that the section has, and one more stops it
 unfoldable pub guessedTable : List ℕ → List ℕ → SectionAddress → SectionAddress → MaybeAddress → ℕ → Outcome
 guessedTable ws bs p start e room =
-    readOff (passed (λ (k : ℕ). guessedReading ws bs start e (wordPlace p k)) ((endOf (sectionAt ws (p .section)) - p .address) / 4 + 1) 0) room
+    readOff (wordsPassed ws bs (Guessed start e) p ((endOf (sectionAt ws (p .section)) - p .address) / 4 + 1)) room
 
 -- in a Data or ReadOnly section
 abbrev pub isTable : List ℕ → SectionAddress → Bool
@@ -145,4 +160,4 @@ tableIn ws bs p n start e room =
 unfoldable pub tableOf : List ℕ → List ℕ → SectionAddress → ℕ → SectionAddress → MaybeAddress → List ℕ → Outcome
 tableOf ws bs p n start e buffer =
     pick (sound ws (length bs)) (tableIn ws bs p n start e (length buffer))
-    (record { table = record { answer = answer.Broken; count = 0; size = 0 }; keys = buffer })
+    (record { table = refusedTable answer.Broken; keys = buffer })
