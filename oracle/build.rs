@@ -66,8 +66,14 @@ fn apply(folder: &Path, texts: &mut [String]) {
                     texts[at] = texts[at].replace(&old, &new);
                     (old, new, part, edits) = (String::new(), String::new(), 0, edits + 1);
                 }
-                (1, _) => { old.push_str(line); old.push('\n') }
-                (2, _) => { new.push_str(line); new.push('\n') }
+                (1, _) => {
+                    old.push_str(line);
+                    old.push('\n')
+                }
+                (2, _) => {
+                    new.push_str(line);
+                    new.push('\n')
+                }
                 _ => {}
             }
         }

@@ -136,9 +136,19 @@ fn rotate(number: u32, amount: u32) -> u32 {
 pub fn judge_place(obj: &ObjInfo, place: SectionAddress) -> u32 {
     match obj.sections.get(place.section) {
         Some(s) if s.kind == ObjSectionKind::Code && s.contains(place.address) => {
-            if place.address % 4 != 0 && !on(89) { 3 } else { 0 }
+            if place.address % 4 != 0 && !on(89) {
+                3
+            } else {
+                0
+            }
         }
-        _ => if on(90) && place.address % 4 != 0 { 3 } else { 2 },
+        _ => {
+            if on(90) && place.address % 4 != 0 {
+                3
+            } else {
+                2
+            }
+        }
     }
 }
 

@@ -44,7 +44,17 @@ pub fn classes(current: &Image, record: &Record, answer: &[u32]) -> Classes {
         ROTATE => {
             p.one();
             let amount = p.one();
-            put!(out, "rotate by {}", if amount == 0 { "0" } else if amount < 32 { "less than 32" } else { "more" });
+            put!(
+                out,
+                "rotate by {}",
+                if amount == 0 {
+                    "0"
+                } else if amount < 32 {
+                    "less than 32"
+                } else {
+                    "more"
+                }
+            );
         }
         BRANCH => branch(&mut out, &mut p, answer),
         LOOKUP => lookup(&mut out, current, &mut p, answer),
@@ -126,7 +136,10 @@ fn image(out: &mut Classes, image: &Image) {
             at(touch && s.size > 0 && r.size > 0, &format!("{kind}: sections that touch"));
             let over = s.address < end(j) as u32 && r.address < end(i) as u32 && s.size > 0 && r.size > 0;
             at(over, "Relocatable: overlap");
-            at(s.length > 0 && r.length > 0 && s.place < r.place + r.length && r.place < s.place + s.length, "shared bytes");
+            at(
+                s.length > 0 && r.length > 0 && s.place < r.place + r.length && r.place < s.place + s.length,
+                "shared bytes",
+            );
             let empty_inside = s.size == 0 && r.address < s.address && (s.address as u64) < end(j);
             at(empty_inside, &format!("{kind}: empty section inside another"));
         }
@@ -181,18 +194,34 @@ fn refused(out: &mut Classes, t: &Tables, rule: &str, buffer: u64) {
             let s = t.sections.iter().find(|s| s.place as u64 + s.length as u64 > buffer);
             let how = s.map(|s| {
                 let by_one = s.place as u64 + s.length as u64 == buffer + 1;
-                let what = if s.kind == 3 { "Bss" } else if s.length == 0 { "empty" } else { "data" };
+                let what = if s.kind == 3 {
+                    "Bss"
+                } else if s.length == 0 {
+                    "empty"
+                } else {
+                    "data"
+                };
                 format!("{what}, {}", if by_one { "by one" } else { "by more" })
             });
             put!(out, "image 1: {rule} {}", how.unwrap_or_default());
         }
         "data length" => {
             let s = t.sections.iter().find(|s| s.length != if s.kind == 3 { 0 } else { s.size });
-            let how = s.map(|s| if s.kind == 3 { "Bss" } else if s.length < s.size { "shorter" } else { "longer" });
+            let how = s.map(|s| {
+                if s.kind == 3 {
+                    "Bss"
+                } else if s.length < s.size {
+                    "shorter"
+                } else {
+                    "longer"
+                }
+            });
             put!(out, "image 1: {rule} {}", first(how));
         }
         "overlap" => {
-            let apart = |a: &Section, b: &Section| a.size == 0 || b.size == 0 || end(a) <= b.address as u64 || end(b) <= a.address as u64;
+            let apart = |a: &Section, b: &Section| {
+                a.size == 0 || b.size == 0 || end(a) <= b.address as u64 || end(b) <= a.address as u64
+            };
             for (i, a) in t.sections.iter().enumerate() {
                 for b in t.sections[..i].iter().filter(|b| !apart(a, b)) {
                     let by = end(a).min(end(b)) - a.address.max(b.address) as u64;
@@ -202,11 +231,13 @@ fn refused(out: &mut Classes, t: &Tables, rule: &str, buffer: u64) {
             }
         }
         "bound order" => {
-            let how = t.bound.windows(2).find_map(|w| order((w[0].section, w[0].address), (w[1].section, w[1].address)));
+            let how =
+                t.bound.windows(2).find_map(|w| order((w[0].section, w[0].address), (w[1].section, w[1].address)));
             put!(out, "image 1: {rule} {}", first(how));
         }
         "symbol order" => {
-            let how = t.symbols.windows(2).find_map(|w| order((w[0].section, w[0].address), (w[1].section, w[1].address)));
+            let how =
+                t.symbols.windows(2).find_map(|w| order((w[0].section, w[0].address), (w[1].section, w[1].address)));
             put!(out, "image 1: {rule} {}", first(how));
         }
         _ => {}
@@ -243,7 +274,13 @@ fn relocation(image: &Image, place: SectionAddress, wanted: u32) -> String {
         let external = r.symbol_section == NO_SYMBOL_SECTION;
         let beats = if unbound.is_empty() { "" } else { " beats unbound" };
         let sum = r.symbol_address as i64 + r.addend as i32 as i64;
-        let wraps = if sum < 0 { " below 0" } else if sum >> 32 != 0 { " past 2^32" } else { "" };
+        let wraps = if sum < 0 {
+            " below 0"
+        } else if sum >> 32 != 0 {
+            " past 2^32"
+        } else {
+            ""
+        };
         return match (differs(r.kind), external) {
             (true, true) => "bound kind before External".into(),
             (true, false) => format!("bound kind{beats}"),
@@ -254,7 +291,11 @@ fn relocation(image: &Image, place: SectionAddress, wanted: u32) -> String {
     let Some(r) = unbound.first() else { return "none".into() };
     let first = if unbound.len() > 1 { " first of two" } else { "" };
     if r.module != t.module {
-        return if differs(r.kind) { "unbound External before kind".into() } else { format!("unbound External{first}") };
+        return if differs(r.kind) {
+            "unbound External before kind".into()
+        } else {
+            format!("unbound External{first}")
+        };
     }
     let target = t.sections.iter().find(|s| s.elf == r.target);
     if differs(r.kind) {
@@ -346,9 +387,10 @@ fn lookup(out: &mut Classes, image: &Image, p: &mut Words, answer: &[u32]) {
             if answer[2] == 0 && code_before > 0 {
                 put!(out, "lookup bit: after another section");
             }
-            let other = obj.sections.iter().any(|(i, s)| {
-                i < place.section && s.size >= 4 && s.kind != crate::obj::ObjSectionKind::Code
-            });
+            let other = obj
+                .sections
+                .iter()
+                .any(|(i, s)| i < place.section && s.size >= 4 && s.kind != crate::obj::ObjSectionKind::Code);
             if answer[2] == 0 && other {
                 put!(out, "lookup bit: after a section that is no Code");
             }
@@ -393,7 +435,9 @@ fn sort_of(value: GprValue) -> &'static str {
 }
 
 /// A Constant or not.
-fn known(value: GprValue) -> &'static str { if sort_of(value) == "Constant" { "Constant" } else { "other" } }
+fn known(value: GprValue) -> &'static str {
+    if sort_of(value) == "Constant" { "Constant" } else { "other" }
+}
 
 fn step(out: &mut Classes, image: &Image, place: SectionAddress, word: u32, vm: &VM, answer: &[u32]) {
     let Some(obj) = &image.obj else {
@@ -437,7 +481,7 @@ fn step(out: &mut Classes, image: &Image, place: SectionAddress, word: u32, vm: 
                 (left, right) if left == "Constant" || right == "Constant" => put!(out, "step add {left} {right}"),
                 _ => put!(out, "step add, no Constant"),
             }
-        },
+        }
         Opcode::Addis => {
             put!(out, "step addis relocation {reloc}");
             if reloc == "Address" || reloc == "none" {
@@ -500,9 +544,23 @@ fn step(out: &mut Classes, image: &Image, place: SectionAddress, word: u32, vm: 
                 _ => "not known",
             };
             let sort = sort_of(gpr(d).value);
-            put!(out, "step {op:?} by {shift} of {}", if sort.len() == 8 && sort != "Constant" { "other" } else { sort });
+            put!(
+                out,
+                "step {op:?} by {shift} of {}",
+                if sort.len() == 8 && sort != "Constant" { "other" } else { sort }
+            );
             let (mb, me) = (ins.field_mb(), ins.field_me());
-            put!(out, "step {op:?} mask {}", if mb <= me { "up" } else if mb == me + 1 { "all" } else { "around" });
+            put!(
+                out,
+                "step {op:?} mask {}",
+                if mb <= me {
+                    "up"
+                } else if mb == me + 1 {
+                    "all"
+                } else {
+                    "around"
+                }
+            );
         }
         Opcode::B | Opcode::Bc | Opcode::Bclr | Opcode::Bcctr => {
             let link = if ins.field_lk() { ", linked" } else { "" };
@@ -592,7 +650,9 @@ fn step(out: &mut Classes, image: &Image, place: SectionAddress, word: u32, vm: 
                 put!(out, "step lwzx by {right}");
             }
         }
-        Opcode::Mtspr => put!(out, "step mtspr {} {}", spr(ins), if spr(ins).ends_with('R') { sort_of(gpr(d).value) } else { "" }),
+        Opcode::Mtspr => {
+            put!(out, "step mtspr {} {}", spr(ins), if spr(ins).ends_with('R') { sort_of(gpr(d).value) } else { "" })
+        }
         Opcode::Mfspr => {
             let value = match ins.field_spr() {
                 8 => sort_of(vm.lr),
@@ -660,7 +720,12 @@ fn table(out: &mut Classes, image: &Image, p: &mut Words, answer: &[u32]) {
         put!(out, "table outside: {:?}, holds {}", section.kind, section.contains(place.address));
         put!(out, "table outside: ragged {ragged}");
         if section.contains(place.address) {
-            put!(out, "table outside: in {:?}, {}", section.kind, if size > 0 && !ragged { "sized" } else { "guessed or ragged" });
+            put!(
+                out,
+                "table outside: in {:?}, {}",
+                section.kind,
+                if size > 0 && !ragged { "sized" } else { "guessed or ragged" }
+            );
         }
         return;
     }
@@ -685,7 +750,13 @@ fn table(out: &mut Classes, image: &Image, p: &mut Words, answer: &[u32]) {
         // Both cut to the section.
         let left = (section.address + section.size - place.address as u64) as u32;
         let (by_symbol, found) = (y.size.min(left), size.min(left));
-        let order = if by_symbol == found { "equal to" } else if by_symbol < found { "below" } else { "above" };
+        let order = if by_symbol == found {
+            "equal to"
+        } else if by_symbol < found {
+            "below"
+        } else {
+            "above"
+        };
         put!(out, "table read, known {}, symbol size {order} the found one", y.known);
     }
     put!(out, "table {way} {kind}: {}", answer[0]);
@@ -697,7 +768,17 @@ fn table(out: &mut Classes, image: &Image, p: &mut Words, answer: &[u32]) {
         put!(out, "table {way}, room exact");
     }
     if answer[0] == 0 {
-        put!(out, "table {way}, size {}", if answer[2] == 0 { "0" } else if answer[2] / 4 > answer[1] { "and fewer entries" } else { "and all entries" });
+        put!(
+            out,
+            "table {way}, size {}",
+            if answer[2] == 0 {
+                "0"
+            } else if answer[2] / 4 > answer[1] {
+                "and fewer entries"
+            } else {
+                "and all entries"
+            }
+        );
     }
     if known > 0 {
         let true_end = place.address as u64 + known as u64;
@@ -742,7 +823,8 @@ fn table(out: &mut Classes, image: &Image, p: &mut Words, answer: &[u32]) {
             }
             h if h.contains("Address") => {
                 put!(out, "table {way}: entry {h}");
-                let found = crate::analysis::relocation_target_for(obj, SectionAddress::new(place.section, at as u32), None);
+                let found =
+                    crate::analysis::relocation_target_for(obj, SectionAddress::new(place.section, at as u32), None);
                 match found.ok().flatten() {
                     Some(RelocationTarget::Address(a)) => Some(a),
                     _ => return,
@@ -759,7 +841,11 @@ fn table(out: &mut Classes, image: &Image, p: &mut Words, answer: &[u32]) {
         let to = match (to, word(at)) {
             (Some(to), _) => to,
             (None, None) => {
-                put!(out, "table {way}: stops at the section's end, {} bytes left", section_end.saturating_sub(at).min(4));
+                put!(
+                    out,
+                    "table {way}: stops at the section's end, {} bytes left",
+                    section_end.saturating_sub(at).min(4)
+                );
                 return;
             }
             (None, Some(0)) if known > 0 => {
@@ -774,13 +860,18 @@ fn table(out: &mut Classes, image: &Image, p: &mut Words, answer: &[u32]) {
                 }
                 Err(_) => {
                     let inside = obj.sections.holding(w).is_some();
-                    put!(out, "table {way}: {kind}, word {} in no section, held {inside}", if w == 0 { "0" } else { "" });
+                    put!(
+                        out,
+                        "table {way}: {kind}, word {} in no section, held {inside}",
+                        if w == 0 { "0" } else { "" }
+                    );
                     return;
                 }
             },
         };
         if known == 0 {
-            let section_decides = |q: SectionAddress| to.section != q.section && (to.section < q.section) != (to.address < q.address);
+            let section_decides =
+                |q: SectionAddress| to.section != q.section && (to.section < q.section) != (to.address < q.address);
             if to < start {
                 put!(out, "table guessed: before the start, by section {}", section_decides(start));
                 return;
@@ -788,7 +879,12 @@ fn table(out: &mut Classes, image: &Image, p: &mut Words, answer: &[u32]) {
             if let Some(end) = end
                 && to >= end
             {
-                put!(out, "table guessed: {} the end, by section {}", if to == end { "at" } else { "past" }, section_decides(end));
+                put!(
+                    out,
+                    "table guessed: {} the end, by section {}",
+                    if to == end { "at" } else { "past" },
+                    section_decides(end)
+                );
                 return;
             }
             if to == start {

@@ -214,11 +214,14 @@ impl Tables {
             });
         }
         for (i, r) in self.bound.iter().enumerate() {
-            list[r.section as usize].relocations.list.push((r.address, ObjReloc {
-                kind: reloc_kind(r.kind),
-                target_symbol: i as u32,
-                addend: if on(21) { r.addend as i64 & 0x7fff_ffff } else { r.addend as i32 as i64 },
-            }));
+            list[r.section as usize].relocations.list.push((
+                r.address,
+                ObjReloc {
+                    kind: reloc_kind(r.kind),
+                    target_symbol: i as u32,
+                    addend: if on(21) { r.addend as i64 & 0x7fff_ffff } else { r.addend as i32 as i64 },
+                },
+            ));
         }
         for y in &self.symbols {
             symbols.list.push(ObjSymbol {

@@ -158,7 +158,13 @@ fn needs_kind(class: &str) -> u32 {
     match class.split(&[' ', ':']).next().unwrap_or("") {
         "script" => 9,
         "walk" => 10,
-        "report" => if class.starts_with("report write") { 11 } else { 12 },
+        "report" => {
+            if class.starts_with("report write") {
+                11
+            } else {
+                12
+            }
+        }
         _ => 8,
     }
 }

@@ -152,8 +152,7 @@ fn any_place(rng: &mut Rng, g: &Ground) -> SectionAddress {
 
 /// A place in or about a section that is wanted.
 fn place_in(rng: &mut Rng, g: &Ground, wanted: impl Fn(u32) -> bool) -> SectionAddress {
-    let found: Vec<u32> =
-        (0..g.t.sections.len() as u32).filter(|i| wanted(g.t.sections[*i as usize].kind)).collect();
+    let found: Vec<u32> = (0..g.t.sections.len() as u32).filter(|i| wanted(g.t.sections[*i as usize].kind)).collect();
     if found.is_empty() || rng.chance(4) {
         return SectionAddress::new(index(rng, g), about(rng, &g.t));
     }
@@ -188,7 +187,13 @@ fn lookup_there(rng: &mut Rng, g: &Ground) -> Record {
         1 => payload.push(about(rng, &g.t)),
         2 => {
             let s = &g.t.sections[rng.below(g.t.sections.len() as u32) as usize];
-            payload.push(if rng.chance(70) { s.elf } else if rng.chance(70) { index(rng, g) } else { numbers(rng) });
+            payload.push(if rng.chance(70) {
+                s.elf
+            } else if rng.chance(70) {
+                index(rng, g)
+            } else {
+                numbers(rng)
+            });
         }
         3 => {
             let p = any_place(rng, g);
@@ -328,8 +333,7 @@ pub fn state_for(rng: &mut Rng, g: &Ground, ins: Ins) -> Box<VM> {
                 vm.gpr[b].value = range(rng);
             }
             if rng.chance(80) {
-                vm.gpr[a].value =
-                    if rng.chance(50) { constant(rng, g) } else { GprValue::Address(target(rng, g)) };
+                vm.gpr[a].value = if rng.chance(50) { constant(rng, g) } else { GprValue::Address(target(rng, g)) };
             }
         }
         Opcode::B | Opcode::Bc | Opcode::Bclr | Opcode::Bcctr => {
@@ -376,8 +380,7 @@ pub fn state_for(rng: &mut Rng, g: &Ground, ins: Ins) -> Box<VM> {
             }
         }
         Opcode::Addi | Opcode::Addic | Opcode::Addic_ if rng.chance(45) => {
-            vm.gpr[a].value =
-                if rng.chance(50) { constant(rng, g) } else { GprValue::Address(target(rng, g)) };
+            vm.gpr[a].value = if rng.chance(50) { constant(rng, g) } else { GprValue::Address(target(rng, g)) };
         }
         Opcode::Mfspr | Opcode::Mtspr => {
             if rng.chance(80) {
@@ -454,8 +457,7 @@ fn split(rng: &mut Rng, g: &Ground, place: SectionAddress) -> Record {
     };
     vm.cr[crf as usize] = Cr { left, right, signed: rng.chance(50) };
     for _ in 0..rng.from_to(1, 3) {
-        vm.gpr[rng.below(32) as usize] =
-            Gpr { value: GprValue::ComparisonResult(crf), ..register(rng, g) };
+        vm.gpr[rng.below(32) as usize] = Gpr { value: GprValue::ComparisonResult(crf), ..register(rng, g) };
     }
     vm.gpr[rng.below(32) as usize].value = GprValue::ComparisonResult((crf + 1) % 8);
     if rng.chance(30) {
@@ -503,9 +505,11 @@ fn table(rng: &mut Rng, g: &Ground) -> Record {
         _ => 4 * rng.from_to(1, 6),
     };
     // What is read without bounds tells where bounds and room are close.
-    let free = g.image.obj.as_ref().and_then(|obj| {
-        entries(obj, place, NonZeroU32::new(size), SectionAddress::new(0, 0), None).ok()
-    });
+    let free = g
+        .image
+        .obj
+        .as_ref()
+        .and_then(|obj| entries(obj, place, NonZeroU32::new(size), SectionAddress::new(0, 0), None).ok());
     let found: Vec<SectionAddress> = free.map_or(vec![], |f| f.0);
     let bound = |rng: &mut Rng| -> SectionAddress {
         if !found.is_empty() && rng.chance(70) {
@@ -674,7 +678,9 @@ fn script(rng: &mut Rng, g: &Ground) -> Record {
 }
 
 /// Is this the giant with code that jumps by a great table?
-fn great_table(g: &Ground) -> bool { g.t.sections.len() == 2 && g.t.sections[1].address == 0x2000 }
+fn great_table(g: &Ground) -> bool {
+    g.t.sections.len() == 2 && g.t.sections[1].address == 0x2000
+}
 
 fn walk(rng: &mut Rng, g: &Ground) -> Record {
     let words = map(rng, g).len() as u32;
@@ -764,7 +770,12 @@ fn report_read(rng: &mut Rng, g: &Ground) -> Record {
             let at = rng.below(bytes.len() as u32) as usize;
             if bytes[at] < 0x80 {
                 bytes[at] |= 0x80;
-                bytes.splice(at + 1..at + 1, rng.pick(&[&[0][..], &[0x80, 0], &[0x80, 0x80, 0x80, 0], &[0x80, 0x80, 0x80, 0x80, 0]]).iter().copied());
+                bytes.splice(
+                    at + 1..at + 1,
+                    rng.pick(&[&[0][..], &[0x80, 0], &[0x80, 0x80, 0x80, 0], &[0x80, 0x80, 0x80, 0x80, 0]])
+                        .iter()
+                        .copied(),
+                );
             }
         }
         11 | 12 => {
@@ -785,7 +796,9 @@ fn report_read(rng: &mut Rng, g: &Ground) -> Record {
                     let words = if s.kind == crate::obj::ObjSectionKind::Code { s.size as u32 / 4 } else { 0 };
                     match words {
                         2..=9 => bytes.extend([2, 0, 1, rng.below(2) as u8, words as u8 - 1]),
-                        10..=100 => bytes.extend([2, rng.below(2) as u8, rng.below(3) as u8, 1, rng.from_to(0, words) as u8]),
+                        10..=100 => {
+                            bytes.extend([2, rng.below(2) as u8, rng.below(3) as u8, 1, rng.from_to(0, words) as u8])
+                        }
                         _ if rng.chance(10) => bytes.extend([1, 0, rng.below(2) as u8]),
                         _ => bytes.push(0),
                     }

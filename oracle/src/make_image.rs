@@ -112,7 +112,13 @@ fn relocations(rng: &mut Rng, t: &mut Tables) {
         for at in 0..s.size {
             let aligned = at % 4 == 0;
             let last = at + 4 > s.size;
-            let share = if aligned { share } else if last { 8 } else { 1 };
+            let share = if aligned {
+                share
+            } else if last {
+                8
+            } else {
+                1
+            };
             let bound = style != 1 && rng.chance(share);
             let unbound = style != 0 && rng.chance(share);
             if bound {
@@ -593,4 +599,6 @@ pub fn giant(rng: &mut Rng, which: u32) -> Made {
     (t.to_words(), data)
 }
 
-pub fn tables_of(image: &Image) -> Tables { Tables::from_words(&image.words).unwrap_or_default() }
+pub fn tables_of(image: &Image) -> Tables {
+    Tables::from_words(&image.words).unwrap_or_default()
+}

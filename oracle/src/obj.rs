@@ -66,8 +66,7 @@ pub struct ObjSection {
 impl ObjSection {
     pub fn contains(&self, address: u32) -> bool {
         let address = address as u64;
-        self.address <= address
-            && (address < self.address + self.size || on(9) && address == self.address + self.size)
+        self.address <= address && (address < self.address + self.size || on(9) && address == self.address + self.size)
     }
 
     pub fn data_range(&self, start: u32, end: u32) -> Result<&[u8]> {
@@ -89,13 +88,17 @@ pub struct ObjSections {
 }
 
 impl ObjSections {
-    pub fn len(&self) -> SectionIndex { self.list.len() as SectionIndex }
+    pub fn len(&self) -> SectionIndex {
+        self.list.len() as SectionIndex
+    }
 
     pub fn iter(&self) -> impl DoubleEndedIterator<Item = (SectionIndex, &ObjSection)> {
         self.list.iter().enumerate().map(|(i, s)| (i as SectionIndex, s))
     }
 
-    pub fn get(&self, index: SectionIndex) -> Option<&ObjSection> { self.list.get(index as usize) }
+    pub fn get(&self, index: SectionIndex) -> Option<&ObjSection> {
+        self.list.get(index as usize)
+    }
 
     /// The first section, in the table's order, that holds the address.
     pub fn holding(&self, address: u32) -> Option<(SectionIndex, &ObjSection)> {
@@ -124,7 +127,9 @@ impl ObjSections {
 impl Index<SectionIndex> for ObjSections {
     type Output = ObjSection;
 
-    fn index(&self, index: SectionIndex) -> &ObjSection { &self.list[index as usize] }
+    fn index(&self, index: SectionIndex) -> &ObjSection {
+        &self.list[index as usize]
+    }
 }
 
 #[derive(Clone, Debug)]
@@ -148,9 +153,11 @@ impl ObjSymbols {
         address: u32,
         kind: ObjSymbolKind,
     ) -> Result<Option<(u32, &ObjSymbol)>> {
-        let found = self.list.iter().enumerate().find(|(_, s)| {
-            s.kind == kind && (s.section == Some(section) || on(13)) && s.address == address as u64
-        });
+        let found = self
+            .list
+            .iter()
+            .enumerate()
+            .find(|(_, s)| s.kind == kind && (s.section == Some(section) || on(13)) && s.address == address as u64);
         Ok(found.map(|(i, s)| (i as u32, s)))
     }
 }
@@ -158,7 +165,9 @@ impl ObjSymbols {
 impl Index<u32> for ObjSymbols {
     type Output = ObjSymbol;
 
-    fn index(&self, index: u32) -> &ObjSymbol { &self.list[index as usize] }
+    fn index(&self, index: u32) -> &ObjSymbol {
+        &self.list[index as usize]
+    }
 }
 
 #[derive(Clone, Debug)]

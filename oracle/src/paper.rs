@@ -16,11 +16,7 @@ use crate::{
 
 /// Code at 800ED000 to 800F4000, ReadOnly at 80520E00; all zero.
 fn image() -> Image {
-    let words = [
-        [0, 0, 2, 0, 0, 0],
-        [0x800e_d000, 0x7000, 0, 1, 0, 0x7000],
-        [0x8052_0e00, 0x100, 2, 2, 0, 0x100],
-    ];
+    let words = [[0, 0, 2, 0, 0, 0], [0x800e_d000, 0x7000, 0, 1, 0, 0x7000], [0x8052_0e00, 0x100, 2, 2, 0, 0x100]];
     let image = Image::new(words.concat(), vec![0; 0x7000]);
     assert_eq!(image.broken, None);
     image
@@ -30,7 +26,9 @@ fn step(vm: &mut VM, address: u32, word: u32) -> StepResult {
     vm.step(image().obj.as_ref().unwrap(), SectionAddress::new(0, address), Ins::new(word))
 }
 
-fn range(min: u32, max: u32, step: u32) -> GprValue { GprValue::Range { min, max, step } }
+fn range(min: u32, max: u32, step: u32) -> GprValue {
+    GprValue::Range { min, max, step }
+}
 
 fn mask(begin: u32, end: u32) -> Vec<u32> {
     answer(&mut Image::default(), &Record { kind: MASK, payload: vec![begin, end] })

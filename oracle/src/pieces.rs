@@ -1,12 +1,10 @@
 //! The pieces of docs/FORMATS.md: places, targets, values, states, to and from words.
 use std::num::NonZeroU32;
 
-use crate::{
-    analysis::{
-        RelocationTarget,
-        cfa::SectionAddress,
-        vm::{BranchTarget, Cr, Gpr, GprValue, VM},
-    },
+use crate::analysis::{
+    RelocationTarget,
+    cfa::SectionAddress,
+    vm::{BranchTarget, Cr, Gpr, GprValue, VM},
 };
 
 /// Reads the words of a payload one after the other.
@@ -15,7 +13,9 @@ pub struct Words<'a> {
 }
 
 impl<'a> Words<'a> {
-    pub fn new(left: &'a [u32]) -> Self { Self { left } }
+    pub fn new(left: &'a [u32]) -> Self {
+        Self { left }
+    }
 
     pub fn one(&mut self) -> u32 {
         let (first, rest) = self.left.split_first().expect("a payload ends early");
@@ -35,7 +35,9 @@ impl<'a> Words<'a> {
         unpack(self.many(count.div_ceil(4)), count)
     }
 
-    pub fn place(&mut self) -> SectionAddress { SectionAddress { section: self.one(), address: self.one() } }
+    pub fn place(&mut self) -> SectionAddress {
+        SectionAddress { section: self.one(), address: self.one() }
+    }
 
     pub fn optional_place(&mut self) -> Option<SectionAddress> {
         let there = self.one() == 1;
@@ -71,9 +73,7 @@ impl<'a> Words<'a> {
                     vm.gpr[i] =
                         Gpr { value: self.value(), hi_addr: self.optional_place(), lo_addr: self.optional_place() }
                 }
-                i @ 32..=39 => {
-                    vm.cr[i - 32] = Cr { left: self.value(), right: self.value(), signed: self.one() == 1 }
-                }
+                i @ 32..=39 => vm.cr[i - 32] = Cr { left: self.value(), right: self.value(), signed: self.one() == 1 },
                 40 => vm.lr = self.value(),
                 41 => vm.ctr = self.value(),
                 i => panic!("no state item has index {i}"),
@@ -84,10 +84,7 @@ impl<'a> Words<'a> {
 }
 
 pub fn pack(bytes: &[u8]) -> Vec<u32> {
-    bytes
-        .chunks(4)
-        .map(|c| c.iter().enumerate().map(|(i, b)| (*b as u32) << (24 - 8 * i)).sum())
-        .collect()
+    bytes.chunks(4).map(|c| c.iter().enumerate().map(|(i, b)| (*b as u32) << (24 - 8 * i)).sum()).collect()
 }
 
 pub fn unpack(words: &[u32], count: usize) -> Vec<u8> {

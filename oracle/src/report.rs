@@ -151,7 +151,11 @@ pub fn write_classes(out: &mut Vec<String>, current: &Image, p: &mut Words, answ
         put!(out, "report write: room {}", if room == answer[1] { "exact" } else { "more" });
     }
     if answer[0] == 10 {
-        put!(out, "report write: short by {}", if room + 1 == report(obj, map).len() as u32 { "a byte" } else { "more" });
+        put!(
+            out,
+            "report write: short by {}",
+            if room + 1 == report(obj, map).len() as u32 { "a byte" } else { "more" }
+        );
     }
     if answer[0] == 0 {
         let bytes = report(obj, map);

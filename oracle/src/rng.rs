@@ -3,7 +3,9 @@
 pub struct Rng(u64);
 
 impl Rng {
-    pub fn new(seed: u64) -> Self { Self(seed) }
+    pub fn new(seed: u64) -> Self {
+        Self(seed)
+    }
 
     pub fn long(&mut self) -> u64 {
         self.0 = self.0.wrapping_add(0x9e37_79b9_7f4a_7c15);
@@ -13,18 +15,28 @@ impl Rng {
         z ^ (z >> 31)
     }
 
-    pub fn word(&mut self) -> u32 { (self.long() >> 32) as u32 }
+    pub fn word(&mut self) -> u32 {
+        (self.long() >> 32) as u32
+    }
 
     /// Below `n`, which is not 0.
-    pub fn below(&mut self, n: u32) -> u32 { ((self.word() as u64 * n as u64) >> 32) as u32 }
+    pub fn below(&mut self, n: u32) -> u32 {
+        ((self.word() as u64 * n as u64) >> 32) as u32
+    }
 
     /// From `a` to `b`, both possible.
-    pub fn from_to(&mut self, a: u32, b: u32) -> u32 { a + self.below(b - a + 1) }
+    pub fn from_to(&mut self, a: u32, b: u32) -> u32 {
+        a + self.below(b - a + 1)
+    }
 
     /// True `n` times in a hundred.
-    pub fn chance(&mut self, n: u32) -> bool { self.below(100) < n }
+    pub fn chance(&mut self, n: u32) -> bool {
+        self.below(100) < n
+    }
 
-    pub fn pick<T: Copy>(&mut self, from: &[T]) -> T { from[self.below(from.len() as u32) as usize] }
+    pub fn pick<T: Copy>(&mut self, from: &[T]) -> T {
+        from[self.below(from.len() as u32) as usize]
+    }
 
     pub fn shuffle<T>(&mut self, list: &mut [T]) {
         for i in (1..list.len()).rev() {

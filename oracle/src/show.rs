@@ -32,14 +32,28 @@ pub fn show(records: &[Record], n: usize) {
         BRANCH => println!("case {n}: branch destination of {:08x} at {:08x}", p.one(), p.one()),
         LOOKUP => {
             let which = p.one();
-            let names = ["", "section at", "section by elf number", "relocation_target_for", "section_address_for",
-                "symbol size", "bytes", "bit", "word"];
+            let names = [
+                "",
+                "section at",
+                "section by elf number",
+                "relocation_target_for",
+                "section_address_for",
+                "symbol size",
+                "bytes",
+                "bit",
+                "word",
+            ];
             println!("case {n}: lookup {which} ({}) {:08x?}", names[which as usize], p.left);
         }
         STEP => {
             let place = p.place();
             let word = p.one();
-            println!("case {n}: step at {}:{:08x} word {word:08x} ({:?})", place.section, place.address, Ins::new(word).op);
+            println!(
+                "case {n}: step at {}:{:08x} word {word:08x} ({:?})",
+                place.section,
+                place.address,
+                Ins::new(word).op
+            );
             show_state(&mut p, "state");
         }
         TABLE => {
@@ -77,14 +91,25 @@ fn show_image(image: &Image) {
         let words: Vec<String> = pack(bytes.unwrap_or(&[])).iter().take(16).map(|w| format!("{w:08x}")).collect();
         println!(
             "  section {i}: {:08x} size {:x} {kind} elf {:x} place {:x} length {:x}: {}",
-            s.address, s.size, s.elf, s.place, s.length, words.join(" ")
+            s.address,
+            s.size,
+            s.elf,
+            s.place,
+            s.length,
+            words.join(" ")
         );
     }
     for r in t.bound.iter().take(64) {
-        println!("  bound {}:{:08x} kind {} symbol {:x}:{:08x} addend {:08x}", r.section, r.address, r.kind, r.symbol_section, r.symbol_address, r.addend);
+        println!(
+            "  bound {}:{:08x} kind {} symbol {:x}:{:08x} addend {:08x}",
+            r.section, r.address, r.kind, r.symbol_section, r.symbol_address, r.addend
+        );
     }
     for r in t.unbound.iter().take(64) {
-        println!("  unbound elf {:x}:{:08x} module {:x} kind {} target elf {:x} addend {:08x}", r.elf, r.address, r.module, r.kind, r.target, r.addend);
+        println!(
+            "  unbound elf {:x}:{:08x} module {:x} kind {} target elf {:x} addend {:08x}",
+            r.elf, r.address, r.module, r.kind, r.target, r.addend
+        );
     }
     for y in t.symbols.iter().take(64) {
         println!("  symbol {}:{:08x} size {:x} known {}", y.section, y.address, y.size, y.known);

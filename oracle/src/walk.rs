@@ -17,7 +17,9 @@ use crate::{
 };
 
 /// "Visited bits ... low bit of each u32 first."
-pub fn bit(map: &[u32], at: u32) -> bool { map[at as usize / 32] >> (at % 32) & 1 == 1 }
+pub fn bit(map: &[u32], at: u32) -> bool {
+    map[at as usize / 32] >> (at % 32) & 1 == 1
+}
 
 pub fn set_bit(map: &mut [u32], at: u32, to: bool) {
     let word = &mut map[at as usize / 32];
@@ -31,7 +33,9 @@ pub fn code_places(obj: &ObjInfo) -> Vec<SectionAddress> {
         .collect()
 }
 
-pub fn too_short(map: usize, code_words: u32) -> bool { (map as u64) * 32 < code_words as u64 + on(75) as u64 }
+pub fn too_short(map: usize, code_words: u32) -> bool {
+    (map as u64) * 32 < code_words as u64 + on(75) as u64
+}
 
 fn is_visited(executor: &Executor, obj: &ObjInfo, place: SectionAddress) -> bool {
     executor.visited(obj.sections[place.section].address as u32, place)
@@ -111,9 +115,11 @@ impl Script<'_, '_> {
     fn handed(&mut self) {
         let waiting = self.p.one() == 1;
         let place = self.p.place();
-        let end = self.obj.sections.get(place.section).is_some_and(|s| {
-            s.kind == ObjSectionKind::Code && s.address + s.size == place.address as u64
-        });
+        let end = self
+            .obj
+            .sections
+            .get(place.section)
+            .is_some_and(|s| s.kind == ObjSectionKind::Code && s.address + s.size == place.address as u64);
         let bad = judge_place(self.obj, place) != 0 && (waiting || !end);
         assert!(bad, "the file has only places that 12 answers");
         self.out.push(12);
@@ -121,7 +127,12 @@ impl Script<'_, '_> {
 
     /// Serves operations up to the next accepted `next`, and answers the reply that came before it; nothing if the
     /// script is done. `waits` is the instruction that waits.
-    fn serve(&mut self, executor: &mut Executor, mut waits: Option<(&mut VM, SectionAddress)>, done: &mut Left) -> Option<Reply> {
+    fn serve(
+        &mut self,
+        executor: &mut Executor,
+        mut waits: Option<(&mut VM, SectionAddress)>,
+        done: &mut Left,
+    ) -> Option<Reply> {
         let mut reply = None;
         let waiting_at_first = waits.is_some();
         while self.left > 0 {
@@ -177,7 +188,9 @@ impl Script<'_, '_> {
     }
 }
 
-pub fn script(current: &Image, p: &mut Words) -> Vec<u32> { run_script(current, p).0 }
+pub fn script(current: &Image, p: &mut Words) -> Vec<u32> {
+    run_script(current, p).0
+}
 
 pub fn run_script(current: &Image, p: &mut Words) -> (Vec<u32>, Standing) {
     let slots = p.one() as usize;
@@ -231,7 +244,11 @@ pub fn run_script(current: &Image, p: &mut Words) -> (Vec<u32>, Standing) {
     }
     let mut out = s.out;
     put_stack(&mut out, &executor);
-    if short { out.extend(map) } else { put_map(&mut out, &executor, obj, map) }
+    if short {
+        out.extend(map)
+    } else {
+        put_map(&mut out, &executor, obj, map)
+    }
     out.push(done.0);
     if let Some((place, vm)) = &done.1 {
         out.extend([place.section, place.address]);
@@ -291,7 +308,10 @@ impl Walk<'_> {
                 let read = entries(self.obj, *table, *size, self.start, self.end);
                 self.counts.entries = read.iter().map(|r| r.0.len()).fold(self.counts.entries, usize::max);
                 match read {
-                    Ok((found, _)) if found.len() + on(91) as usize <= TABLE_ENTRIES + on(92) as usize * 999 && !(on(87) && found.is_empty()) => {
+                    Ok((found, _))
+                        if found.len() + on(91) as usize <= TABLE_ENTRIES + on(92) as usize * 999
+                            && !(on(87) && found.is_empty()) =>
+                    {
                         self.counts.read += 1;
                         for place in found {
                             if judge_place(self.obj, place) == 0 {
@@ -338,7 +358,9 @@ impl Walk<'_> {
     }
 }
 
-pub fn walk(current: &Image, p: &mut Words) -> Vec<u32> { run_walk(current, p).0 }
+pub fn walk(current: &Image, p: &mut Words) -> Vec<u32> {
+    run_walk(current, p).0
+}
 
 fn run_walk(current: &Image, p: &mut Words) -> (Vec<u32>, Counts) {
     let (slots, count, fill) = (p.one() as usize, p.one() as usize, p.one());
@@ -464,7 +486,11 @@ pub fn script_classes(out: &mut Vec<String>, current: &Image, p: &mut Words, ans
             4 => {
                 let place = p.place();
                 let number = a.one();
-                put!(out, "script visited: {number}{}", if number == 0 { format!(", {}", a.one()) } else { String::new() });
+                put!(
+                    out,
+                    "script visited: {number}{}",
+                    if number == 0 { format!(", {}", a.one()) } else { String::new() }
+                );
                 put!(out, "script visited: {}", place_name(obj, place));
             }
             _ => {
@@ -511,7 +537,11 @@ pub fn walk_classes(out: &mut Vec<String>, current: &Image, p: &mut Words, answe
         put!(out, "walk: an External table");
     }
     if counts.entries >= TABLE_ENTRIES {
-        put!(out, "walk: a table of {} entries", if counts.entries == TABLE_ENTRIES { "1,024" } else { "more than 1,024" });
+        put!(
+            out,
+            "walk: a table of {} entries",
+            if counts.entries == TABLE_ENTRIES { "1,024" } else { "more than 1,024" }
+        );
     }
     if counts.linked > 0 {
         put!(out, "walk: a linked target pushed");

@@ -8,11 +8,15 @@ pub type Result<T, E = Error> = std::result::Result<T, E>;
 
 impl Error {
     /// The message that was raised first, by which the oracle tells 7, 8 and 9 apart.
-    pub fn cause(&self) -> &str { &self.0 }
+    pub fn cause(&self) -> &str {
+        &self.0
+    }
 }
 
 impl fmt::Display for Error {
-    fn fmt(&self, f: &mut fmt::Formatter) -> fmt::Result { f.write_str(&self.0) }
+    fn fmt(&self, f: &mut fmt::Formatter) -> fmt::Result {
+        f.write_str(&self.0)
+    }
 }
 
 pub trait Context<T> {
@@ -20,11 +24,15 @@ pub trait Context<T> {
 }
 
 impl<T> Context<T> for Result<T> {
-    fn with_context<F: FnOnce() -> String>(self, _: F) -> Result<T> { self }
+    fn with_context<F: FnOnce() -> String>(self, _: F) -> Result<T> {
+        self
+    }
 }
 
 impl<T> Context<T> for Option<T> {
-    fn with_context<F: FnOnce() -> String>(self, f: F) -> Result<T> { self.ok_or_else(|| Error(f())) }
+    fn with_context<F: FnOnce() -> String>(self, f: F) -> Result<T> {
+        self.ok_or_else(|| Error(f()))
+    }
 }
 
 #[macro_export]

@@ -6,12 +6,20 @@ pub struct FixedBitSet {
 }
 
 impl FixedBitSet {
-    pub fn new() -> Self { Self::default() }
+    pub fn new() -> Self {
+        Self::default()
+    }
 
-    pub fn with_capacity(bits: usize) -> Self { Self { bits: vec![false; bits] } }
+    pub fn with_capacity(bits: usize) -> Self {
+        Self { bits: vec![false; bits] }
+    }
 
-    pub fn contains(&self, bit: usize) -> bool { self.bits.get(bit).copied().unwrap_or(false) }
+    pub fn contains(&self, bit: usize) -> bool {
+        self.bits.get(bit).copied().unwrap_or(false)
+    }
 
     /// Panics outside the capacity, as the crate does.
-    pub fn insert(&mut self, bit: usize) { self.bits[bit] = true }
+    pub fn insert(&mut self, bit: usize) {
+        self.bits[bit] = true
+    }
 }

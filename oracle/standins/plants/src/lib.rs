@@ -5,6 +5,10 @@ static NUMBER: AtomicU32 = AtomicU32::new(0);
 
 /// Is the wrong version `n` asked for?
 #[inline(always)]
-pub fn on(n: u32) -> bool { cfg!(feature = "planted") && NUMBER.load(Ordering::Relaxed) == n }
+pub fn on(n: u32) -> bool {
+    cfg!(feature = "planted") && NUMBER.load(Ordering::Relaxed) == n
+}
 
-pub fn set(n: u32) { NUMBER.store(n, Ordering::Relaxed) }
+pub fn set(n: u32) {
+    NUMBER.store(n, Ordering::Relaxed)
+}

@@ -1,6 +1,7 @@
 //! Stand-in for `ppc750cl`, written from document 01, "Decoding". Rc and reserved bits are never looked at.
 use plants::on;
 
+#[rustfmt::skip]
 #[derive(Clone, Copy, Debug, Eq, PartialEq)]
 pub enum Opcode {
     Illegal,
@@ -17,6 +18,7 @@ pub enum Opcode {
 use Opcode::*;
 
 /// "Primary opcodes", those that `step` tells apart.
+#[rustfmt::skip]
 pub const PRIMARY: [(u32, Opcode); 36] = [
     (8, Subfic), (10, Cmpli), (11, Cmpi), (12, Addic), (13, Addic_), (14, Addi), (15, Addis), (16, Bc), (18, B),
     (21, Rlwinm), (23, Rlwnm), (24, Ori),
@@ -28,6 +30,7 @@ pub const PRIMARY: [(u32, Opcode); 36] = [
 pub const UNDER_19: [(u32, Opcode); 3] = [(16, Bclr), (50, Rfi), (528, Bcctr)];
 
 /// The last three also with 512 added.
+#[rustfmt::skip]
 pub const UNDER_31: [(u32, Opcode); 12] = [
     (0, Cmp), (32, Cmpl), (23, Lwzx), (339, Mfspr), (467, Mtspr), (444, Or), (266, Add), (40, Subf), (8, Subfc),
     (266 + 512, Add), (40 + 512, Subf), (8 + 512, Subfc),
@@ -40,9 +43,8 @@ pub const D_31_OE: [u32; 11] = [10, 138, 202, 234, 136, 200, 232, 235, 459, 491,
 pub const D_31: [u32; 16] = [75, 11, 19, 83, 87, 279, 343, 20, 371, 533, 597, 534, 790, 595, 659, 310];
 pub const DA_31: [u32; 4] = [55, 119, 311, 375];
 pub const A_PRIMARY: [u32; 6] = [20, 25, 26, 27, 28, 29];
-pub const A_31: [u32; 21] = [
-    28, 60, 124, 284, 316, 412, 476, 24, 536, 792, 824, 26, 954, 922, 183, 247, 439, 567, 631, 695, 759,
-];
+pub const A_31: [u32; 21] =
+    [28, 60, 124, 284, 316, 412, 476, 24, 536, 792, 824, 26, 954, 922, 183, 247, 439, 567, 631, 695, 759];
 pub const NONE_PRIMARY: [u32; 9] = [3, 17, 4, 56, 57, 59, 60, 61, 63];
 pub const NONE_19: [u32; 10] = [0, 150, 33, 129, 193, 225, 257, 289, 417, 449];
 pub const NONE_31: [u32; 31] = [
@@ -68,8 +70,7 @@ pub fn decode(word: u32) -> (Opcode, Writes) {
     let extended = if on(1) && primary == 31 { extended & 0x1ff } else { extended };
     let other = |writes| Some((Other, writes));
     let found = match primary {
-        19 => named(&UNDER_19, extended)
-            .or_else(|| NONE_19.contains(&extended).then_some((Other, Writes::Nothing))),
+        19 => named(&UNDER_19, extended).or_else(|| NONE_19.contains(&extended).then_some((Other, Writes::Nothing))),
         31 => named(&UNDER_31, extended).or_else(|| {
             if D_31.contains(&extended)
                 || D_31_OE.contains(&extended)
@@ -124,27 +125,59 @@ impl Ins {
     }
 
     /// Bits `from` to `to` in the manual's numbering, bit 0 the highest.
-    fn field(&self, from: u32, to: u32) -> u32 { (self.code >> (31 - to)) & ((1u32 << (to - from + 1)) - 1) }
+    fn field(&self, from: u32, to: u32) -> u32 {
+        (self.code >> (31 - to)) & ((1u32 << (to - from + 1)) - 1)
+    }
 
-    pub fn field_rd(&self) -> u8 { self.field(6, 10) as u8 }
-    pub fn field_rs(&self) -> u8 { self.field(6, 10) as u8 }
-    pub fn field_bo(&self) -> u8 { self.field(6, 10) as u8 }
-    pub fn field_ra(&self) -> u8 { self.field(11, 15) as u8 }
-    pub fn field_bi(&self) -> u8 { self.field(11, 15) as u8 }
-    pub fn field_rb(&self) -> u8 { self.field(16, 20) as u8 }
-    pub fn field_sh(&self) -> u8 { self.field(16, 20) as u8 }
-    pub fn field_mb(&self) -> u8 { self.field(21, 25) as u8 }
-    pub fn field_me(&self) -> u8 { self.field(26, 30) as u8 }
-    pub fn field_simm(&self) -> i16 { self.field(16, 31) as u16 as i16 }
-    pub fn field_uimm(&self) -> u16 { self.field(16, 31) as u16 }
-    pub fn field_crfd(&self) -> u8 { self.field(6, 8) as u8 }
-    pub fn field_l(&self) -> u8 { self.field(10, 10) as u8 }
+    pub fn field_rd(&self) -> u8 {
+        self.field(6, 10) as u8
+    }
+    pub fn field_rs(&self) -> u8 {
+        self.field(6, 10) as u8
+    }
+    pub fn field_bo(&self) -> u8 {
+        self.field(6, 10) as u8
+    }
+    pub fn field_ra(&self) -> u8 {
+        self.field(11, 15) as u8
+    }
+    pub fn field_bi(&self) -> u8 {
+        self.field(11, 15) as u8
+    }
+    pub fn field_rb(&self) -> u8 {
+        self.field(16, 20) as u8
+    }
+    pub fn field_sh(&self) -> u8 {
+        self.field(16, 20) as u8
+    }
+    pub fn field_mb(&self) -> u8 {
+        self.field(21, 25) as u8
+    }
+    pub fn field_me(&self) -> u8 {
+        self.field(26, 30) as u8
+    }
+    pub fn field_simm(&self) -> i16 {
+        self.field(16, 31) as u16 as i16
+    }
+    pub fn field_uimm(&self) -> u16 {
+        self.field(16, 31) as u16
+    }
+    pub fn field_crfd(&self) -> u8 {
+        self.field(6, 8) as u8
+    }
+    pub fn field_l(&self) -> u8 {
+        self.field(10, 10) as u8
+    }
     /// The two halves of SPR stand exchanged in the word.
     pub fn field_spr(&self) -> u16 {
         if on(6) { self.field(11, 20) as u16 } else { (self.field(16, 20) << 5 | self.field(11, 15)) as u16 }
     }
-    pub fn field_lk(&self) -> bool { self.field(31, 31) == 1 }
-    pub fn field_aa(&self) -> bool { self.field(30, 30) == 1 }
+    pub fn field_lk(&self) -> bool {
+        self.field(31, 31) == 1
+    }
+    pub fn field_aa(&self) -> bool {
+        self.field(30, 30) == 1
+    }
 
     /// "Branch displacements are signed: 26 bits for b, 16 for bc, low two bits zero, added to the address
     /// modulo 2^32 unless AA."
