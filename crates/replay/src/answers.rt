@@ -1,0 +1,219 @@
+// The answer to each kind of case, as docs/FORMATS.md lays it out.
+ghost use Prim.Native.Nat.{_≤_};
+ghost use lib.ListN.{length};
+use crate::asked;
+use crate::print;
+use crate::read;
+use crate::states;
+use decoder::Op;
+use image::Judged;
+use jump_tables::Table;
+use jump_tables::TableAnswer;
+use step::Branch;
+use step::Refusal;
+use step::StepResult;
+use step::Stepped;
+use vm::VM;
+
+// Writes the answer into the line and answers where it ends.
+pub(crate) fn answer(kind: u32, p: &[u8], im: &[u32], data: &[u8], entries: &mut [u64], line: &mut [u8]) -> usize {
+    match kind {
+        1 => image(im, data, line),
+        2 => decode(p, line),
+        3 => print::word(line, 0, words::mask::mask_value(read::word(p, 0), read::word(p, 1))),
+        4 => print::word(line, 0, words::mask::rotate_left(read::word(p, 0), read::word(p, 1))),
+        5 => branch_dest(p, line),
+        6 => asked::lookup(p, im, data, line),
+        7 => step(p, im, data, line),
+        8 => table(p, im, data, entries, line),
+        _ => 0,
+    }
+}
+
+fn image(im: &[u32], data: &[u8], line: &mut [u8]) -> usize {
+    match image::check_image(im, data) {
+        Judged::Sound => print::word(line, 0, 0),
+        Judged::Broken => print::word(line, 0, 1),
+    }
+}
+
+fn is_other(op: Op) -> bool {
+    match op {
+        Op::Other => true,
+        _ => false,
+    }
+}
+
+fn times(b: bool, n: u32) -> u32 {
+    if b { n } else { 0 }
+}
+
+fn class(op: Op) -> u32 {
+    let load = times(decoder::class::is_load_op(op), 1);
+    let loadf = times(decoder::class::is_loadf_op(op), 2);
+    let store = times(decoder::class::is_store_op(op), 4);
+    let storef = times(decoder::class::is_storef_op(op), 8);
+    let update = times(decoder::class::is_update_op(op), 16);
+    load | loadf | store | storef | update
+}
+
+fn written(w: u32, op: Op) -> u32 {
+    if is_other(op) { decoder::written(w) } else { 0 }
+}
+
+fn decode(p: &[u8], line: &mut [u8]) -> usize {
+    let w = read::word(p, 0);
+    let d = decoder::decode(w);
+    let op = d.op;
+    let at = print::word(line, 0, decoder::op_number(w) as u32);
+    let at = print::word(line, at, class(op));
+    let at = print::word(line, at, written(w, op));
+    let at = print::word(line, at, words::field::rd(w) as u32);
+    let at = print::word(line, at, words::field::ra(w) as u32);
+    let at = print::word(line, at, words::field::rb(w) as u32);
+    fields(w, line, at)
+}
+
+fn fields(w: u32, line: &mut [u8], at: usize) -> usize {
+    let at = print::word(line, at, words::field::mb(w));
+    let at = print::word(line, at, words::field::me(w));
+    let at = print::word(line, at, words::field::simm(w));
+    let at = print::word(line, at, words::field::uimm(w));
+    let at = print::word(line, at, words::field::crfd(w) as u32);
+    let at = print::flag(line, at, words::field::l(w));
+    let at = print::word(line, at, words::field::spr(w));
+    let at = print::flag(line, at, words::field::lk(w));
+    print::flag(line, at, words::field::aa(w))
+}
+
+fn is_direct_branch(op: Op) -> bool {
+    match op {
+        Op::B => true,
+        Op::Bc => true,
+        _ => false,
+    }
+}
+
+fn branch_dest(p: &[u8], line: &mut [u8]) -> usize {
+    let w = read::word(p, 0);
+    let d = decoder::decode(w);
+    let op = d.op;
+    if is_direct_branch(op) {
+        let at = print::word(line, 0, 1);
+        return print::word(line, at, decoder::branch_dest(w, read::word(p, 1)));
+    }
+    let at = print::word(line, 0, 0);
+    print::word(line, at, 0)
+}
+
+fn refusal(why: Refusal) -> u32 {
+    match why {
+        Refusal::BrokenImage => 1,
+        Refusal::NotCode => 2,
+        Refusal::Misaligned => 3,
+    }
+}
+
+fn step(p: &[u8], im: &[u32], data: &[u8], line: &mut [u8]) -> usize {
+    let s = read::state(p, 3);
+    let before = s.state;
+    let r = step::step(im, data, read::place(p, 0), read::word(p, 2), before);
+    stepped(line, 0, r, before)
+}
+
+// A step's answer; of Illegal, Jump and Branch the state after is the one handed in.
+pub(crate) fn stepped(line: &mut [u8], at: usize, r: Stepped, before: VM) -> usize {
+    let result = r.result;
+    match result {
+        StepResult::Refused(why) => {
+            let at = print::word(line, at, refusal(why));
+            states::state(line, at, before)
+        }
+        StepResult::Continue => {
+            let at = outcome(line, at, 0);
+            states::state(line, at, r.vm)
+        }
+        StepResult::LoadStore { address, source, source_reg } => {
+            let at = outcome(line, at, 1);
+            let at = print::target(line, at, address);
+            let at = print::register(line, at, source);
+            let at = print::word(line, at, source_reg as u32);
+            states::state(line, at, r.vm)
+        }
+        StepResult::Illegal => {
+            let at = outcome(line, at, 2);
+            states::state(line, at, before)
+        }
+        StepResult::Jump(t) => {
+            let at = outcome(line, at, 3);
+            let at = print::branch_target(line, at, t);
+            states::state(line, at, before)
+        }
+        StepResult::Branch { first, second } => {
+            let at = outcome(line, at, 4);
+            let at = branch(line, at, first, r.vm);
+            let at = branch(line, at, second, r.other);
+            states::state(line, at, before)
+        }
+    }
+}
+
+fn outcome(line: &mut [u8], at: usize, n: u32) -> usize {
+    let at = print::word(line, at, 0);
+    print::word(line, at, n)
+}
+
+fn branch(line: &mut [u8], at: usize, b: Branch, s: VM) -> usize {
+    let at = print::branch_target(line, at, b.target);
+    let at = print::flag(line, at, b.link);
+    states::state(line, at, s)
+}
+
+fn table_answer(a: TableAnswer) -> u32 {
+    match a {
+        TableAnswer::Broken => 1,
+        TableAnswer::RelocationError => 7,
+        TableAnswer::Ragged => 8,
+        TableAnswer::PointsNowhere => 9,
+        TableAnswer::Full => 10,
+        TableAnswer::Read => 0,
+    }
+}
+
+// Every entry of a buffer made the same.
+fn fill(entries: &mut [u64], key: u64) {
+    let mut i = 0;
+    while i < entries.len() {
+        entries[i] = key;
+        i += 1;
+    }
+}
+
+fn table(p: &[u8], im: &[u32], data: &[u8], entries: &mut [u64], line: &mut [u8]) -> usize {
+    let asked = read::word(p, 8) as usize;
+    let room = if asked <= entries.len() { asked } else { entries.len() };
+    let word = read::word(p, 9) as u64;
+    table_in(p, im, data, &mut entries[..room], word * 0x1_0000_0000 + word, line)
+}
+
+fn table_in(p: &[u8], im: &[u32], data: &[u8], entries: &mut [u64], key: u64, line: &mut [u8]) -> usize {
+    fill(entries, key);
+    let end = read::maybe_place(p, 5);
+    let t = jump_tables::uniq_jump_table_entries(im, data, read::place(p, 0), read::word(p, 2), read::place(p, 3), end, entries);
+    let at = print::word(line, 0, table_answer(t.answer));
+    let at = print::word(line, at, (t.count % 0x1_0000_0000) as u32);
+    let at = print::word(line, at, t.size);
+    keys(entries, line, at)
+}
+
+fn keys(entries: &[u64], line: &mut [u8], at: usize) -> usize {
+    let mut at = at;
+    let mut i = 0;
+    while i < entries.len() {
+        let k = entries[i];
+        at = print::word(line, at, (k / 0x1_0000_0000 % 0x1_0000_0000) as u32);
+        at = print::word(line, at, (k % 0x1_0000_0000) as u32);
+        i += 1;
+    }
+    at
+}

@@ -1,0 +1,127 @@
+// Lookups in the current image: docs/FORMATS.md, kind 6.
+ghost use mathlib.Core.Path.{_≡_};
+ghost use mathlib.Core.Bool.{true};
+ghost use lib.ListN.{length};
+ghost use Rattle.image.specs.Rules.{sound, tablesSound};
+use crate::print;
+use crate::read;
+use image::Judged;
+use lookups::CodePlace;
+use lookups::MaybeWord;
+use lookups::Relocation;
+use lookups::Wanted;
+use places::MaybeTarget;
+use search::Found;
+
+pub(crate) fn lookup(p: &[u8], im: &[u32], data: &[u8], line: &mut [u8]) -> usize {
+    match image::check_image(im, data) {
+        Judged::Broken => print::word(line, 0, 1),
+        Judged::Sound => {
+            let at = print::word(line, 0, 0);
+            in_tables(p, im, data, line, at)
+        }
+    }
+}
+
+fn in_tables(p: &[u8], im: &[u32], data: &[u8], line: &mut [u8], at: usize) -> usize
+    requires { ⌜ sound (now im) (length (now data)) ≡ true ⌝ }
+{
+    let which = read::word(p, 0);
+    match which {
+        1 => found(line, at, lookups::at_address(im, read::word(p, 1))),
+        2 => found(line, at, image::elf::elf_index(im, read::word(p, 1))),
+        3 => relocation(line, at, lookups::relocation_target_for(im, read::place(p, 1), wanted(read::word(p, 3)))),
+        4 => print::maybe_target(line, at, lookups::section_address_for(im, read::place(p, 1), read::word(p, 3))),
+        5 => print::word(line, at, lookups::known_size(im, read::place(p, 1))),
+        6 => sums(lookups::data_from(im, data, read::place(p, 1)), line, at),
+        7 => visited_bit(p, im, line, at),
+        _ => word_there(line, at, lookups::read_u32(im, data, read::place(p, 1))),
+    }
+}
+
+fn two(line: &mut [u8], at: usize, a: u32, b: u32) -> usize {
+    let at = print::word(line, at, a);
+    print::word(line, at, b)
+}
+
+fn found(line: &mut [u8], at: usize, f: Found) -> usize {
+    match f {
+        Found::Nothing => two(line, at, 0, 0),
+        Found::At(i) => two(line, at, 1, (i % 0x1_0000_0000) as u32),
+    }
+}
+
+fn wanted(n: u32) -> Wanted {
+    match n {
+        0 => Wanted::Any,
+        1 => Wanted::Absolute,
+        _ => Wanted::Other,
+    }
+}
+
+fn relocation(line: &mut [u8], at: usize, r: Relocation) -> usize {
+    match r {
+        Relocation::Nothing => {
+            let at = print::word(line, at, 0);
+            print::maybe_target(line, at, MaybeTarget::Missing)
+        }
+        Relocation::Error => {
+            let at = print::word(line, at, 1);
+            print::maybe_target(line, at, MaybeTarget::Missing)
+        }
+        Relocation::To(t) => {
+            let at = print::word(line, at, 0);
+            print::maybe_target(line, at, MaybeTarget::Known(t))
+        }
+    }
+}
+
+fn word_there(line: &mut [u8], at: usize, m: MaybeWord) -> usize {
+    match m {
+        MaybeWord::Missing => two(line, at, 0, 0),
+        MaybeWord::Read(w) => two(line, at, 1, w),
+    }
+}
+
+// How many bytes, two running sums, and the first four bytes.
+fn sums(bytes: &[u8], line: &mut [u8], at: usize) -> usize {
+    let mut first: u32 = 0;
+    let mut second: u32 = 0;
+    let mut i = 0;
+    while i < bytes.len() {
+        first = words::sum::wrapping_add(first, wide(bytes[i]) + 1);
+        second = words::sum::wrapping_add(second, first);
+        i += 1;
+    }
+    let at = two(line, at, (bytes.len() % 0x1_0000_0000) as u32, first);
+    two(line, at, second, front(bytes))
+}
+
+fn wide(b: u8) -> u32 {
+    b as u32
+}
+
+fn byte_or_zero(bytes: &[u8], i: usize) -> u32 {
+    if i < bytes.len() { wide(bytes[i]) } else { 0 }
+}
+
+fn front(bytes: &[u8]) -> u32 {
+    let a = (byte_or_zero(bytes, 0) << 24) | (byte_or_zero(bytes, 1) << 16);
+    let b = (byte_or_zero(bytes, 2) << 8) | byte_or_zero(bytes, 3);
+    a | b
+}
+
+fn visited_bit(p: &[u8], im: &[u32], line: &mut [u8], at: usize) -> usize
+    requires { ⌜ tablesSound (now im) ≡ true ⌝ }
+{
+    let place = read::place(p, 1);
+    let at = print::word(line, at, (image::code::code_words(im) % 0x1_0000_0000) as u32);
+    match lookups::code_place(im, place) {
+        CodePlace::NotCode => two(line, at, 2, 0),
+        CodePlace::Misaligned => two(line, at, 3, 0),
+        CodePlace::Fine => {
+            let n = lookups::word_number(im, place);
+            two(line, at, 0, n.0)
+        }
+    }
+}
