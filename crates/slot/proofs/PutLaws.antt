@@ -9,7 +9,7 @@ use native.Mathlib.Numerals.{add-one}
 use native.Mathlib.Omega.{arith}
 use lib.Dec.{eqb}
 use lib.ListN.{length, getD, set, take, drop, length-append, length-take, length-drop, take-append-drop, drop-of-length-le, List·getD-append}
-use lib.Seq.{take-suc-set, take-suc, take-all, getD-at, sets, sets-eq, take-at, drop-append-add, drop-drop, length-take-le, getD-append-add, getD-take, getD-drop}
+use lib.Seq.{take-suc-set, take-suc, take-all, getD-at, sets, sets-eq, take-at, drop-append-add, drop-drop, length-take-le, getD-append-add, getD-take, getD-drop, ext-getD}
 use borrow.Author.Tests.{eqb-true, eq-eqb}
 use Rattle.search.proofs.EveryLaws.{every-at}
 use Rattle.search.specs.Every.{every}
@@ -113,6 +113,12 @@ unfolding every
 every-holds p zero h = refl
 every-holds p (suc n) h = rw (every-holds p n (λ i k. h i (omega arith)), h n (omega arith))
 
+-- tests that agree at each number below a bound
+pub every-same : (p q : ℕ → Bool) (n : ℕ) → ((i : ℕ) → i < n → p i ≡ q i) → every p n ≡ every q n
+unfolding every
+every-same p q zero h = refl
+every-same p q (suc n) h = rw (every-same p q n (λ i k. h i (omega arith)), h n (omega arith))
+
 -- the test of it
 pub matches-holds : (ws : List ℕ) (at : ℕ) (l : List ℕ) → matches ws at l ≡ true → Holds ws at l
 unfolding Holds
@@ -143,6 +149,16 @@ module _ {A : Type 0} where
   -- a list whose elements are f's is listed
   pub listed-all : (f : ℕ → A) (d : A) (rs : List A) (k : ℕ) → length rs ≡ k → ((i : ℕ) → i < k → f i ≡ getD rs i d) → listed f k ≡ rs
   listed-all f d rs k h e = listed-take f d rs k (omega arith) e ∙ take-all k rs (omega arith)
+
+  pub listed-same : (f g : ℕ → A) (k : ℕ) → ((i : ℕ) → i < k → f i ≡ g i) → listed f k ≡ listed g k
+  unfolding listed
+  listed-same f g zero e = refl
+  listed-same f g (suc k) e = rw (listed-same f g k (λ i a. e i (omega arith)), e k (omega arith))
+
+  -- one element more
+  pub listed-one : (f : ℕ → A) (k : ℕ) → listed f (k + 1) ≡ listed f k ++ (f k ∷ [])
+  unfolding listed
+  listed-one f k = rw (add-one k)
 
   pub listed-length : (f : ℕ → A) (k : ℕ) → length (listed f k) ≡ k
   unfolding listed
@@ -184,3 +200,14 @@ module _ {A : Type 0} (words : A → List ℕ) (d : A) (n : ℕ) (wide : (r : A)
             let e : i ≡ k = omega arith in
             rw (e, ← many-length k rs) (holds-right ws at (many words d k rs) (words (getD rs k d)) h)
       ]
+
+-- words that stand there already
+pub put-kept : (ws : List ℕ) (at : ℕ) (l : List ℕ) → at + length l ≤ length ws → ((i : ℕ) → i < length l → getD l i 0 ≡ getD ws (at + i) 0) → put ws at l ≡ ws
+put-kept ws at l h e = ext-getD 0 (put ws at l) ws (put-length ws at l h) (λ i a. same i (decLt i at) (decLt i (at + length l)))
+  where
+    same : (i : ℕ) → Dec (i < at) → Dec (i < at + length l) → getD (put ws at l) i 0 ≡ getD ws i 0
+    same i (yes a) b = put-low ws at l i (omega arith) a
+    same i (no a) (yes b) =
+        let q : i ≡ at + (i - at) = omega arith in
+        rw q (put-read ws at l (i - at) (omega arith) (omega arith) ∙ e (i - at) (omega arith))
+    same i (no a) (no b) = put-high ws at l i (omega arith) (omega arith)
