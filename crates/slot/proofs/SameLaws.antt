@@ -1,6 +1,5 @@
 -- Words that agree from a number on hold the same slot there.
 -- Assumes nothing.
-use mathlib.Core.Bool.{Bool}
 use mathlib.Core.List.{List}
 use mathlib.Core.Path.{_≡_, ap, _∙_}
 use Prim.Native.Nat.{ℕ, _+_, _*_, _≤_, _<_}
@@ -9,8 +8,8 @@ use lib.Dec.{eqb}
 use lib.ListN.{length, getD}
 use Rattle.places.specs.declared.SectionAddress.{SectionAddress}
 use Rattle.vm.specs.declared.VM.{VM}
-use Rattle.slot.specs.Put.{matches}
 use Rattle.slot.specs.Layout.{slotSize, stateSize, slotWords, registerAt, compareAt, heldAt, stateAt, placeIn, stateIn, isSlot}
+use Rattle.slot.specs.Put.{matches}
 use Rattle.slot.proofs.PutLaws.{listed-same, every-same}
 use Rattle.slot.proofs.SlotLaws.{slot-length}
 
@@ -52,9 +51,9 @@ module _ (ws vs : List ℕ) where
   state-same at h =
       let s : Agree ws vs (at + 2) stateSize = agree-part at slotSize 2 stateSize (omega arith) h in
       let gs = listed-same (λ (i : ℕ). registerAt vs (at + 2 + i * 8)) (λ (i : ℕ). registerAt ws (at + 2 + i * 8)) 32
-          (λ i k. register-same (at + 2 + i * 8) (agree-part (at + 2) stateSize (i * 8) 8 (omega arith) s)) in
+      (λ i k. register-same (at + 2 + i * 8) (agree-part (at + 2) stateSize (i * 8) 8 (omega arith) s)) in
       let rs = listed-same (λ (i : ℕ). compareAt vs (at + 2 + 256 + i * 8)) (λ (i : ℕ). compareAt ws (at + 2 + 256 + i * 8)) 8
-          (λ i k. compare-same (at + 2 + 256 + i * 8) (compare-part (at + 2) i k s)) in
+      (λ i k. compare-same (at + 2 + 256 + i * 8) (compare-part (at + 2) i k s)) in
       rw (gs, rs, held-same (at + 2 + 320) (agree-part (at + 2) stateSize 320 4 (omega arith) s), held-same (at + 2 + 324) (agree-part (at + 2) stateSize 324 4 (omega arith) s))
 
   pub slot-same : (at : ℕ) → Agree ws vs at slotSize → isSlot vs at ≡ isSlot ws at
@@ -64,4 +63,4 @@ module _ (ws vs : List ℕ) where
       ap (λ (q : SectionAddress). matches vs at (slotWords q (stateIn vs at))) (place-same at h)
       ∙ ap (λ (t : VM). matches vs at (slotWords p t)) (state-same at h)
       ∙ every-same (λ (i : ℕ). eqb (getD vs (at + i) 0) (getD (slotWords p s) i 0)) (λ (i : ℕ). eqb (getD ws (at + i) 0) (getD (slotWords p s) i 0)) (length (slotWords p s))
-          (λ i k. ap (λ (w : ℕ). eqb w (getD (slotWords p s) i 0)) (h i (omega (arith, slot-length p s))))
+      (λ i k. ap (λ (w : ℕ). eqb w (getD (slotWords p s) i 0)) (h i (omega (arith, slot-length p s))))

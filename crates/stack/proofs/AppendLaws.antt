@@ -1,27 +1,24 @@
 -- A plain push: the words that it leaves are a stack, and its entries are those before it with the new one on top.
 -- Assumes a stack with room, and of the state what its type says.
-use mathlib.Core.Bool.{Bool, true, false}
+use mathlib.Core.Bool.{true}
 use mathlib.Core.List.{List, [], _∷_, _++_}
 use mathlib.Core.Logic.{_≢_}
-use mathlib.Core.Path.{_≡_, refl, sym, ap, _∙_}
-use Prim.Native.Nat.{ℕ, zero, suc, _+_, _*_, _≤_, _<_, min}
+use mathlib.Core.Path.{_≡_, sym, ap, _∙_}
+use Prim.Native.Nat.{ℕ, _+_, _≤_, _<_}
 use native.Mathlib.Decide.{decLt, ℕ-discrete}
 use native.Mathlib.Omega.{arith}
-use lib.Dec.{ltb, eqb}
 use lib.ListN.{length, getD, set, length-set}
 use lib.Seq.{getD-set-same, getD-set-other}
 use borrow.Author.Tests.{lt-ltb, le-ltb, ne-eqb}
-use Rattle.words.specs.Choice.{pick}
 use Rattle.places.specs.declared.SectionAddress.{SectionAddress}
-use Rattle.vm.specs.declared.VM.{VM}
-use Rattle.slot.specs.Put.{put, listed}
-use Rattle.slot.specs.Layout.{slotSize, slotWords, placeIn, stateIn, isSlot}
-use Rattle.slot.specs.Fits.{Fits}
 use Rattle.slot.proofs.PutLaws.{put-length, put-low, put-high, listed-same, listed-one}
-use Rattle.slot.proofs.SlotLaws.{slot-length, place-back, state-back, slot-back}
 use Rattle.slot.proofs.SameLaws.{Agree}
-use Rattle.stack.specs.Stack.{Entry, room, slotAt, orderAt, entryAt, heldAt, entries, keyAt, slotKey, highOf, sortedOf, Stack}
+use Rattle.slot.proofs.SlotLaws.{slot-length, place-back, state-back, slot-back}
+use Rattle.slot.specs.Fits.{Fits}
+use Rattle.slot.specs.Layout.{slotSize, slotWords, placeIn, stateIn, isSlot}
+use Rattle.vm.specs.declared.VM.{VM}
 use Rattle.stack.specs.Push.{nextSlot, nextHigh, claimed, appended}
+use Rattle.stack.specs.Stack.{Entry, room, slotAt, orderAt, entryAt, heldAt, entries, keyAt, slotKey, highOf, sortedOf, Stack}
 use Rattle.stack.proofs.RoomLaws.{room-fits}
 use Rattle.stack.proofs.SlotsKept.{key-kept, entry-kept, slot-kept}
 
@@ -164,8 +161,8 @@ module _ (ws : List ℕ) (n : ℕ) (st : Stack ws n) (free : n < room (length ws
     append-top f =
         ap (λ (q : SectionAddress). mk q (stateIn vs (slotAt vs (orderAt vs n)))) top-place
         ∙ ap (mk p)
-            (ap (λ (j : ℕ). stateIn vs (slotAt vs j)) order-top ∙ ap (stateIn vs) slot-there
-            ∙ state-back c (slotAt ws k) p s f (omega (arith, slot-in)))
+        (ap (λ (j : ℕ). stateIn vs (slotAt vs j)) order-top ∙ ap (stateIn vs) slot-there
+        ∙ state-back c (slotAt ws k) p s f (omega (arith, slot-in)))
       where
         mk : SectionAddress → VM → Entry
         mk q t = record { place = q; state = t }

@@ -5,9 +5,9 @@ use mathlib.Core.Path.{_≡_, ap, _∙_}
 use Prim.Native.Nat.{ℕ}
 use lib.ListN.{length}
 use Rattle.places.specs.declared.SectionAddress.{SectionAddress}
-use Rattle.vm.specs.declared.VM.{VM}
-use Rattle.slot.specs.Layout.{slotSize, placeIn, stateIn, isSlot}
 use Rattle.slot.proofs.SameLaws.{Agree, place-same, state-same, slot-same}
+use Rattle.slot.specs.Layout.{slotSize, placeIn, stateIn, isSlot}
+use Rattle.vm.specs.declared.VM.{VM}
 use Rattle.stack.specs.Stack.{Entry, slotAt, entryAt, placeKey, slotKey}
 
 module _ (ws vs : List ℕ) (same : length vs ≡ length ws) (k : ℕ) (kept : Agree ws vs (slotAt ws k) slotSize) where

@@ -2,19 +2,18 @@
 -- Assumes nothing.
 use mathlib.Core.Bool.{Bool, true, false, not, _&&_}
 use mathlib.Core.List.{List}
-use mathlib.Core.Path.{_≡_, refl, sym, ap, _∙_, subst}
-use Prim.Native.Nat.{ℕ, zero, suc, _+_, _-_, _≤_, _<_, min}
+use mathlib.Core.Path.{_≡_, refl, sym, _∙_, subst}
+use Prim.Native.Nat.{ℕ, zero, suc, _+_, _-_, _≤_, _<_}
 use native.Mathlib.Decide.{decLt, ℕ-discrete}
 use native.Mathlib.Nat.{le-refl, le-trans}
 use native.Mathlib.Omega.{arith}
 use lib.Dec.{eqb, leb, ltb}
 use lib.ListN.{length, getD}
 use borrow.Author.Tests.{ltb-true, leb-true, eqb-false, lt-ltb, le-leb, eq-eqb, ne-eqb, not-true}
-use Rattle.words.specs.Choice.{pick}
 use Rattle.search.proofs.EveryLaws.{and-left, and-right, every-at}
 use Rattle.search.specs.Every.{every}
-use Rattle.slot.specs.Layout.{isSlot}
 use Rattle.slot.proofs.PutLaws.{every-holds}
+use Rattle.slot.specs.Layout.{isSlot}
 use Rattle.stack.specs.Stack.{room, slotAt, orderAt, keyAt, highOf, sortedOf, Stack}
 use Rattle.stack.specs.Valid.{isFresh, isNamed, isOrdered, isHeld, validStack}
 use Rattle.stack.proofs.AppendLaws.{high-word}

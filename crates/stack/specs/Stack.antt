@@ -1,16 +1,16 @@
 -- A stack of waiting states in words: word 0 is how many slots were used since it was last empty, word 1 how many of the lowest states
 -- are in order, then a table with a slot number for each slot, then the slots. How many states are held is a number beside the words.
-use mathlib.Core.Path.{_≡_}
-use mathlib.Core.Bool.{Bool, true}
+use mathlib.Core.Bool.{true}
 use mathlib.Core.List.{List}
+use mathlib.Core.Path.{_≡_}
 use Prim.Native.Nat.{ℕ, _+_, _-_, _*_, _/_, _≤_, _<_, min}
-use lib.ListN.{length, getD}
 use lib.Dec.{eqb}
-use Rattle.words.specs.Choice.{pick}
+use lib.ListN.{length, getD}
 use Rattle.places.specs.declared.SectionAddress.{SectionAddress}
-use Rattle.vm.specs.declared.VM.{VM}
-use Rattle.slot.specs.Put.{listed}
 use Rattle.slot.specs.Layout.{slotSize, placeIn, stateIn, isSlot}
+use Rattle.slot.specs.Put.{listed}
+use Rattle.vm.specs.declared.VM.{VM}
+use Rattle.words.specs.Choice.{pick}
 
 -- a waiting state and its place
 pub record Entry : Type 0 where

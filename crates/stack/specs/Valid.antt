@@ -3,11 +3,11 @@
 use mathlib.Core.Bool.{Bool, true, not, _&&_}
 use mathlib.Core.List.{List}
 use Prim.Native.Nat.{ℕ, _+_, _-_}
-use lib.ListN.{length, getD}
 use lib.Dec.{eqb, leb, ltb}
-use Rattle.words.specs.Choice.{pick}
+use lib.ListN.{length, getD}
 use Rattle.search.specs.Every.{every}
 use Rattle.slot.specs.Layout.{isSlot}
+use Rattle.words.specs.Choice.{pick}
 use Rattle.stack.specs.Stack.{room, slotAt, orderAt, keyAt, sortedOf}
 
 -- number i of the table is none of those before it

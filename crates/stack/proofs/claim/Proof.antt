@@ -1,63 +1,46 @@
-use Rattle.stack.proofs.AppendLaws.{next-low}
-use lib.ListN.{length-set}
-use lib.ListN.{length}
-use Rattle.stack.proofs.RoomLaws.{room-small, room-fits}
+-- Three stores; the slot is there.
+-- Assumes nothing.
 use native.Mathlib.Omega.{arith}
+use lib.ListN.{length-set, length}
 use borrow.Author.Needs.{needs}
+use Rattle.stack.proofs.AppendLaws.{next-low}
+use Rattle.stack.proofs.RoomLaws.{room-small, room-fits}
 use Rattle.stack.proofs.claim.Statement.{statement}
 use Rattle.stack.proofs.claim.Tie as tie
-use Rattle.stack.proofs.claim.Reads as reads
-use Rattle.stack.proofs.claim.Lts as lts
-use Rattle.stack.proofs.next_high.Reads as next-high-reads
-use Rattle.stack.proofs.next_slot.Reads as next-slot-reads
-use Rattle.stack.proofs.order.slot_at.Reads as slot-at-reads
-use Rattle.stack.proofs.order.sorted_of.Reads as sorted-of-reads
 
--- src/lib.rt:59:9
 next-slot-requires : tie.Need-next-slot-requires
 next-slot-requires c κs = search needs
 
--- src/lib.rt:60:9
 next-high-requires : tie.Need-next-high-requires
 next-high-requires c κs = search needs
 
--- src/lib.rt:61:9
 sorted-of-requires : tie.Need-sorted-of-requires
 sorted-of-requires c κs = omega (arith, room-fits (length (c .before .before .before .before .before .before .args .words .now)) (c .before .before .before .before .before .before .args .count) (c .before .before .before .before .before .before .pre .1))
 
--- src/lib.rt:62:9
 slot-at-requires : tie.Need-slot-at-requires
 slot-at-requires c κs = rw (c .before .before .before .before .before .next-slot .ensures) (next-low (c .before .before .before .before .before .before .before .before .args .words .now) (c .before .before .before .before .before .before .before .before .args .count) (c .before .before .before .before .before .before .before .before .pre .0) (c .before .before .before .before .before .before .before .before .pre .1))
 
--- src/lib.rt:63:5
 slice-write-words : tie.Need-slice-write-words
 slice-write-words c = omega (arith, room-fits (length (c .before .before .before .before .before .before .before .before .before .args .words .now)) (c .before .before .before .before .before .before .before .before .before .args .count) (c .before .before .before .before .before .before .before .before .before .pre .1))
 
--- src/lib.rt:64:16
 cast-words : tie.Need-cast-words
 cast-words c = omega (arith, c .before .before .sorted-of .ensures, room-small (length (c .before .before .before .before .before .before .before .before .before .args .words .now)), c .before .before .before .before .before .before .before .before .before .pre .1)
 
--- src/lib.rt:64:5
 slice-write-words-2 : tie.Need-slice-write-words-2
 slice-write-words-2 c = simp length-set (omega (arith, room-fits (length (c .before .before .before .before .before .before .before .before .before .args .words .now)) (c .before .before .before .before .before .before .before .before .before .args .count) (c .before .before .before .before .before .before .before .before .before .pre .1)))
 
--- src/lib.rt:65:11
 add-words : tie.Need-add-words
 add-words c = search needs
 
--- src/lib.rt:65:5
 mul-words : tie.Need-mul-words
 mul-words c = omega (arith, room-fits (length (c .before .before .before .before .before .before .before .before .before .args .words .now)) (c .before .before .before .before .before .before .before .before .before .args .count) (c .before .before .before .before .before .before .before .before .before .pre .1))
 
--- src/lib.rt:65:5
 slice-write-words-3 : tie.Need-slice-write-words-3
 slice-write-words-3 c = simp length-set (omega (arith, room-fits (length (c .before .before .before .before .before .before .before .before .before .args .words .now)) (c .before .before .before .before .before .before .before .before .before .args .count) (c .before .before .before .before .before .before .before .before .before .pre .1)))
 
--- src/lib.rt:55:1
 same-length : tie.Need-same-length
 same-length c = simp length-set
 
--- src/lib.rt:55:1
 returns : tie.Need-returns
 returns c = (rw (c .slot-at .ensures, c .before .before .before .before .before .before .next-slot .ensures), rw (c .before .before .before .before .before .before .next-slot .ensures, c .before .before .before .before .next-high .ensures, c .before .before .sorted-of .ensures))
 

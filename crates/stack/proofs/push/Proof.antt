@@ -1,46 +1,38 @@
-use Rattle.stack.proofs.AppendLaws.{slot-fits, append-stack}
-use Rattle.stack.specs.Push.{claimed, appended, sortedWords, pushedWords}
+-- Refused, or claimed, written and perhaps sorted: between the steps the words are a stack.
+-- Assumes nothing.
+use mathlib.Core.Bool.{Bool}
+use mathlib.Core.List.{List}
+use mathlib.Core.Path.{_≡_, refl, sym, ap, _∙_, subst}
+use Prim.Native.Nat.{ℕ, _+_, _≤_, _<_}
+use native.Mathlib.Omega.{arith}
+use lib.ListN.{length}
+use borrow.Author.Needs.{needs}
+use borrow.Author.Tests.{lt-ltb, le-ltb}
 use Rattle.slot.specs.Layout.{slotWords}
 use Rattle.slot.specs.Put.{put}
-use Rattle.stack.specs.Stack.{Stack, Ordered, room, slotAt, orderAt, heldAt, keyAt, slotKey, highOf, sortedOf}
-use lib.ListN.{length}
-use Rattle.stack.proofs.RoomLaws.{room-small, room-fits}
-use borrow.Author.Tests.{lt-ltb, le-ltb}
-use mathlib.Core.List.{List}
-use mathlib.Core.Bool.{Bool}
-use Prim.Native.Nat.{ℕ, _+_, _-_, _*_, _≤_, _<_}
-use mathlib.Core.Path.{_≡_, refl, sym, ap, _∙_, subst}
-use native.Mathlib.Omega.{arith}
-use borrow.Author.Needs.{needs}
+use Rattle.stack.specs.Push.{claimed, appended, sortedWords, pushedWords}
+use Rattle.stack.specs.Stack.{Stack, room}
+use Rattle.stack.proofs.AppendLaws.{slot-fits, append-stack}
+use Rattle.stack.proofs.RoomLaws.{room-small}
 use Rattle.stack.proofs.push.Statement.{statement}
 use Rattle.stack.proofs.push.Tie as tie
-use Rattle.stack.proofs.push.Reads as reads
-use Rattle.stack.proofs.push.Lts as lts
-use Rattle.slot.proofs.put_slot.Reads as put-slot-reads
-use Rattle.stack.proofs.claim.Reads as claim-reads
-use Rattle.stack.proofs.order.room_of.Reads as room-of-reads
-use Rattle.stack.proofs.order.sort.Reads as sort-reads
 
--- src/lib.rt:75:8
 room-of-requires : tie.Need-room-of-requires
 room-of-requires c κs = search needs
 
--- src/lib.rt:76:9
 returns : tie.Need-returns
-returns c = 
+returns c =
     let a = c .before .before .before .args in
     let full : room (length (a .words .now)) ≤ a .count = omega (arith, c .if1 .taken, c .before .room-of .ensures) in
     record { taken = sym (le-ltb (a .count) (room (length (a .words .now))) full); count = refl; words = refl; fits = λ e. absurd (let z : _≡_ {A = ℕ} 0 1 = cc in let n : ⊥ = omega arith in n) }
 
--- src/lib.rt:81:9
 claim-requires : tie.Need-claim-requires
-claim-requires c κs = 
+claim-requires c κs =
     let b = c .before .before .before .before in
     (b .pre, omega (arith, c .before .if1 .left, c .before .before .room-of .ensures))
 
--- src/lib.rt:82:5
 put-slot-requires : tie.Need-put-slot-requires
-put-slot-requires c κs = 
+put-slot-requires c κs =
     let b = c .before .before .before .before .before .before .before .before in
     let a = b .args in
     let ws = a .words .now in
@@ -49,13 +41,11 @@ put-slot-requires c κs =
     let s = q in
     omega (arith, q .claim .ensures .0, q .claim .kept .0, slot-fits ws (a .count) (b .pre) free (a .p) (a .s))
 
--- src/lib.rt:84:21
 add-sort : tie.Need-add-sort
 add-sort c = omega (arith, c .before .before .before .before .before .before .before .before .before .before .if1 .left, c .before .before .before .before .before .before .before .before .before .before .before .room-of .ensures, room-small (length (c .before .before .before .before .before .before .before .before .before .before .before .before .before .args .words .now)))
 
--- src/lib.rt:84:9
 sort-requires : tie.Need-sort-requires
-sort-requires c κs = 
+sort-requires c κs =
     let b = c .before .before .before .before .before .before .before .before .before .before .before .before .before in
     let a = b .args in
     let ws = a .words .now in
@@ -68,17 +58,14 @@ sort-requires c κs =
     ∙ ap (λ (i : ℕ). put (claimed ws (a .count)) i (slotWords (a .p) (a .s))) (q .claim .ensures .0) in
     (subst (λ (w : List ℕ). Stack w (a .count + 1)) (sym now) (append-stack ws (a .count) (b .pre) free (a .p) (a .s) (s .put-slot .ensures .1)), omega arith)
 
--- src/lib.rt:87:20
 add-t18 : tie.Need-add-t18
 add-t18 c = omega (arith, c .before .before .before .before .before .before .before .before .before .before .before .before .before .if1 .left, c .before .before .before .before .before .before .before .before .before .before .before .before .before .before .room-of .ensures, room-small (length (c .before .before .before .before .before .before .before .before .before .before .before .before .before .before .before .before .args .words .now)))
 
--- src/lib.rt:85:9
 same-length : tie.Need-same-length
 same-length c = search needs
 
--- src/lib.rt:85:9
 returns-2 : tie.Need-returns-2
-returns-2 c = 
+returns-2 c =
     let b = c .before .before .before .before .before .before .before .before .before .before .before .before .before .before .before .before in
     let a = b .args in
     let ws = a .words .now in
@@ -96,17 +83,14 @@ returns-2 c =
       fits = λ e. s .put-slot .ensures .1;
     }
 
--- src/lib.rt:92:16
 add-t7 : tie.Need-add-t7
 add-t7 c = omega (arith, c .before .before .before .before .before .before .before .before .before .if1 .left, c .before .before .before .before .before .before .before .before .before .before .room-of .ensures, room-small (length (c .before .before .before .before .before .before .before .before .before .before .before .before .args .words .now)))
 
--- src/lib.rt:71:1
 same-length-2 : tie.Need-same-length-2
 same-length-2 c = search needs
 
--- src/lib.rt:71:1
 returns-3 : tie.Need-returns-3
-returns-3 c = 
+returns-3 c =
     let b = c .before .before .before .before .before .before .before .before .before .before .before .before in
     let a = b .args in
     let ws = a .words .now in

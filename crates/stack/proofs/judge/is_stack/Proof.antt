@@ -1,38 +1,29 @@
-use Rattle.stack.proofs.ValidLaws.{fails, named-low, valid-slots, stack-named, stack-ordered, valid-stack}
-use Rattle.stack.proofs.AppendLaws.{high-word}
-use Rattle.stack.specs.Valid.{isNamed, isOrdered, validStack}
-use borrow.Author.Tests.{eq-eqb}
-use lib.ListN.{length, getD}
-use native.Mathlib.Decide.{decLt}
+-- Each way out, by what the test of a stack is: where one part fails the whole does.
+-- Assumes nothing.
 use mathlib.Core.Bool.{true, false}
-use lib.ListN.{length}
-use Rattle.stack.proofs.RoomLaws.{room-small, room-fits}
-use Rattle.stack.specs.Stack.{Stack, Ordered, room, slotAt, orderAt, heldAt, keyAt, slotKey, highOf, sortedOf}
-use Prim.Native.Nat.{ℕ, _+_, _-_, _*_, _≤_, _<_}
-use mathlib.Core.Path.{_≡_, refl, sym, ap, _∙_, subst}
+use mathlib.Core.Path.{_≡_, sym, ap, _∙_}
+use Prim.Native.Nat.{ℕ, _<_}
+use native.Mathlib.Decide.{decLt}
 use native.Mathlib.Omega.{arith}
+use lib.ListN.{length, getD}
 use borrow.Author.Needs.{needs}
+use borrow.Author.Tests.{eq-eqb}
+use Rattle.stack.specs.Stack.{sortedOf}
+use Rattle.stack.specs.Valid.{isNamed, isOrdered, validStack}
+use Rattle.stack.proofs.AppendLaws.{high-word}
+use Rattle.stack.proofs.RoomLaws.{room-fits}
+use Rattle.stack.proofs.ValidLaws.{fails, named-low, valid-slots, stack-named, stack-ordered, valid-stack}
 use Rattle.stack.proofs.judge.is_stack.Statement.{statement}
 use Rattle.stack.proofs.judge.is_stack.Tie as tie
-use Rattle.stack.proofs.judge.is_stack.Reads as reads
-use Rattle.stack.proofs.judge.is_stack.Lts as lts
-use Rattle.stack.proofs.judge.is_held.Reads as is-held-reads
-use Rattle.stack.proofs.judge.is_named.Reads as is-named-reads
-use Rattle.stack.proofs.judge.is_ordered.Reads as is-ordered-reads
-use Rattle.stack.proofs.order.room_of.Reads as room-of-reads
-use Rattle.stack.proofs.order.sorted_of.Reads as sorted-of-reads
 
--- src/judge.rt:85:9
 returns : tie.Need-returns
 returns c = rw (eq-eqb _ _ (c .if1 .taken))
 
--- src/judge.rt:87:9
 room-of-requires : tie.Need-room-of-requires
 room-of-requires c κs = search needs
 
--- src/judge.rt:89:9
 returns-2 : tie.Need-returns-2
-returns-2 c = 
+returns-2 c =
     let b = c .before .before .before .before in
     let ws = b .args .words .now in
     let n = b .args .count in
@@ -40,9 +31,8 @@ returns-2 c =
     let is = c .before .room-of .ensures in
     sym (fails (validStack ws n) (λ t. let st = valid-stack ws n t in let w = high-word ws n some in omega (arith, st .count, st .within, st .first some, c .if2 .taken)))
 
--- src/judge.rt:91:16
 shared-slice-read-high : tie.Need-shared-slice-read-high
-shared-slice-read-high c = 
+shared-slice-read-high c =
     let b = c .before .before .before .before .before in
     let ws = b .args .words .now in
     let n = b .args .count in
@@ -50,13 +40,11 @@ shared-slice-read-high c =
     let is = c .before .before .room-of .ensures in
     omega (arith, room-fits (length ws) 0 (omega (arith, some, c .before .if2 .left)))
 
--- src/judge.rt:92:9
 cast-if3 : tie.Need-cast-if3
 cast-if3 c = omega (arith, c .shared-slice-known2 .given 0)
 
--- src/judge.rt:93:9
 returns-3 : tie.Need-returns-3
-returns-3 c = 
+returns-3 c =
     let b = c .before .before .before .before .before .before in
     let ws = b .args .words .now in
     let n = b .args .count in
@@ -64,13 +52,11 @@ returns-3 c =
     let is = c .before .before .before .room-of .ensures in
     sym (fails (validStack ws n) (λ t. let st = valid-stack ws n t in let w = high-word ws n some in omega (arith, st .count, st .within, st .first some, c .if3 .taken)))
 
--- src/judge.rt:95:16
 cast-if4 : tie.Need-cast-if4
 cast-if4 c = omega (arith, c .before .shared-slice-known2 .given 0)
 
--- src/judge.rt:96:9
 returns-4 : tie.Need-returns-4
-returns-4 c = 
+returns-4 c =
     let b = c .before .before .before .before .before .before .before in
     let ws = b .args .words .now in
     let n = b .args .count in
@@ -78,9 +64,8 @@ returns-4 c =
     let is = c .before .before .before .before .room-of .ensures in
     sym (fails (validStack ws n) (λ t. let st = valid-stack ws n t in let w = high-word ws n some in omega (arith, st .count, st .within, st .first some, c .if4 .taken)))
 
--- src/judge.rt:98:15
 shared-slice-read-if5 : tie.Need-shared-slice-read-if5
-shared-slice-read-if5 c = 
+shared-slice-read-if5 c =
     let b = c .before .before .before .before .before .before .before .before in
     let ws = b .args .words .now in
     let n = b .args .count in
@@ -88,9 +73,8 @@ shared-slice-read-if5 c =
     let is = c .before .before .before .before .before .room-of .ensures in
     omega (arith, room-fits (length ws) 0 (omega (arith, some, c .before .before .before .before .if2 .left)))
 
--- src/judge.rt:99:9
 returns-5 : tie.Need-returns-5
-returns-5 c = 
+returns-5 c =
     let b = c .before .before .before .before .before .before .before .before .before in
     let ws = b .args .words .now in
     let n = b .args .count in
@@ -98,9 +82,8 @@ returns-5 c =
     let is = c .before .before .before .before .before .before .room-of .ensures in
     sym (fails (validStack ws n) (λ t. let st = valid-stack ws n t in let w = high-word ws n some in omega (arith, st .count, st .within, st .first some, c .if5 .taken)))
 
--- src/judge.rt:101:8
 is-named-requires : tie.Need-is-named-requires
-is-named-requires c κs = 
+is-named-requires c κs =
     let b = c .before .before .before .before .before .before .before .before .before in
     let ws = b .args .words .now in
     let n = b .args .count in
@@ -108,9 +91,8 @@ is-named-requires c κs =
     let is = c .before .before .before .before .before .before .room-of .ensures in
     omega (arith, room-fits (length ws) 0 (omega (arith, some, c .before .before .before .before .before .if2 .left)), c .before .before .if4 .left)
 
--- src/judge.rt:102:30
 sorted-of-requires : tie.Need-sorted-of-requires
-sorted-of-requires c κs = 
+sorted-of-requires c κs =
     let b = c .before .before .before .before .before .before .before .before .before .before .before in
     let ws = b .args .words .now in
     let n = b .args .count in
@@ -118,9 +100,8 @@ sorted-of-requires c κs =
     let is = c .before .before .before .before .before .before .before .before .room-of .ensures in
     omega (arith, room-fits (length ws) 0 (omega (arith, some, c .before .before .before .before .before .before .before .if2 .left)))
 
--- src/judge.rt:102:12
 is-ordered-requires : tie.Need-is-ordered-requires
-is-ordered-requires c κs = 
+is-ordered-requires c κs =
     let b = c .before .before .before .before .before .before .before .before .before .before .before .before in
     let ws = b .args .words .now in
     let n = b .args .count in
@@ -129,9 +110,8 @@ is-ordered-requires c κs =
     let low = named-low ws (getD ws 0 0) (sym (c .before .before .is-named .ensures) ∙ c .before .if6 .taken) in
     (omega (arith, c .sorted-of .ensures, c .before .before .before .before .before .before .before .before .if2 .left), λ i h. omega (arith, c .sorted-of .ensures, c .before .before .before .before .before .before .if3 .left, c .before .before .before .before .before .if4 .left, low i (omega (arith, c .sorted-of .ensures, c .before .before .before .before .before .before .if3 .left))))
 
--- src/judge.rt:103:13
 is-held-requires : tie.Need-is-held-requires
-is-held-requires c κs = 
+is-held-requires c κs =
     let b = c .before .before .before .before .before .before .before .before .before .before .before .before .before .before in
     let ws = b .args .words .now in
     let n = b .args .count in
@@ -140,9 +120,8 @@ is-held-requires c κs =
     let low = named-low ws (getD ws 0 0) (sym (c .before .before .before .before .is-named .ensures) ∙ c .before .before .before .if6 .taken) in
     (omega (arith, c .before .before .before .before .before .before .before .before .before .before .if2 .left), λ i h. omega (arith, c .before .before .before .before .before .before .before .if4 .left, low i (omega (arith, c .before .before .before .before .before .before .before .before .if3 .left))))
 
--- src/judge.rt:81:1
 returns-6 : tie.Need-returns-6
-returns-6 c = 
+returns-6 c =
     let b = c .before .before .before .before .before .before .before .before .before .before .before .before .before .before .before in
     let ws = b .args .words .now in
     let n = b .args .count in
@@ -153,9 +132,8 @@ returns-6 c =
     (sym (c .before .before .before .before .before .is-named .ensures) ∙ c .before .before .before .before .if6 .taken)
     (ap (isOrdered ws) (sym (c .before .before .before .sorted-of .ensures)) ∙ sym (c .before .before .is-ordered .ensures) ∙ c .before .if7 .taken))
 
--- src/judge.rt:81:1
 returns-7 : tie.Need-returns-7
-returns-7 c = 
+returns-7 c =
     let b = c .before .before .before .before .before .before .before .before .before .before .before .before .before .before in
     let ws = b .args .words .now in
     let n = b .args .count in
@@ -164,9 +142,8 @@ returns-7 c =
     let off : isOrdered ws (sortedOf ws n) ≡ false = ap (isOrdered ws) (sym (c .before .before .sorted-of .ensures)) ∙ sym (c .before .is-ordered .ensures) ∙ c .if7 .left in
     sym (fails (validStack ws n) (λ t. let on : isOrdered ws (sortedOf ws n) ≡ true = stack-ordered ws n (valid-stack ws n t) in let z : _≡_ {A = ℕ} 0 1 = cc in omega arith))
 
--- src/judge.rt:81:1
 returns-8 : tie.Need-returns-8
-returns-8 c = 
+returns-8 c =
     let b = c .before .before .before .before .before .before .before .before .before .before .before in
     let ws = b .args .words .now in
     let n = b .args .count in
