@@ -7,4 +7,5 @@ pub mod AppendLaws
 pub mod ArrangeLaws
 pub mod ValidLaws
 
--- pub mod Stacks
+pub mod StableLaws
+pub mod Stacks
