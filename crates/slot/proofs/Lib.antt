@@ -1,0 +1,4 @@
+-- Laws that belong to no one function.
+pub mod PutLaws
+pub mod SlotLaws
+pub mod SameLaws

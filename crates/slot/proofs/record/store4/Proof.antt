@@ -1,0 +1,73 @@
+-- Four stores one after the other are four words put.
+-- Assumes nothing.
+use mathlib.Core.List.{[], _∷_}
+use mathlib.Core.Path.{_≡_}
+use Prim.Native.Nat.{suc, _+_}
+use native.Mathlib.Omega.{arith}
+use lib.ListN.{length-set}
+use borrow.Author.Needs.{needs}
+use Rattle.slot.proofs.PutLaws.{stored}
+use Rattle.slot.proofs.record.store4.Statement.{statement}
+use Rattle.slot.proofs.record.store4.Tie as tie
+
+mul-words : tie.Need-mul-words
+mul-words c = search needs
+
+slice-write-words : tie.Need-slice-write-words
+slice-write-words c = search needs
+
+add-words : tie.Need-add-words
+add-words c = search needs
+
+mul-words-2 : tie.Need-mul-words-2
+mul-words-2 c = search needs
+
+slice-write-words-2 : tie.Need-slice-write-words-2
+slice-write-words-2 c = simp length-set (omega arith)
+
+add-words-2 : tie.Need-add-words-2
+add-words-2 c = search needs
+
+mul-words-3 : tie.Need-mul-words-3
+mul-words-3 c = search needs
+
+slice-write-words-3 : tie.Need-slice-write-words-3
+slice-write-words-3 c = simp length-set (omega arith)
+
+add-words-3 : tie.Need-add-words-3
+add-words-3 c = search needs
+
+mul-words-4 : tie.Need-mul-words-4
+mul-words-4 c = search needs
+
+slice-write-words-4 : tie.Need-slice-write-words-4
+slice-write-words-4 c = simp length-set (omega arith)
+
+same-length : tie.Need-same-length
+same-length c = search needs
+
+returns : tie.Need-returns
+returns c =
+    let a = c .args in
+    let one : a .at + 1 ≡ suc (a .at) = omega arith in
+    let two : a .at + 2 ≡ suc (suc (a .at)) = omega arith in
+    let three : a .at + 3 ≡ suc (suc (suc (a .at))) = omega arith in
+    rw (one, two, three) (stored (a .w ∷ a .x ∷ a .y ∷ a .z ∷ []) (a .words .now) (a .at) (omega arith))
+
+pub store4-spec : {M : Type 1} → statement M
+store4-spec =
+    tie.close
+    (tie.spec
+    mul-words
+    slice-write-words
+    add-words
+    mul-words-2
+    slice-write-words-2
+    add-words-2
+    mul-words-3
+    slice-write-words-3
+    add-words-3
+    mul-words-4
+    slice-write-words-4
+    same-length
+    returns)

@@ -1,0 +1,164 @@
+-- The loops' invariants: the first records of the local state are those that stand in the words.
+-- The measures are the records that are left. Assumes nothing.
+use mathlib.Core.Path.{_≡_, refl}
+use Prim.Native.Nat.{ℕ, _+_, _-_, _*_, _≤_}
+use native.Mathlib.Omega.{arith}
+use lib.ListN.{length, take, length-set}
+use borrow.Author.Needs.{needs}
+use Rattle.slot.specs.Layout.{registerAt, compareAt}
+use Rattle.slot.specs.Put.{listed}
+use Rattle.slot.proofs.PutLaws.{listed-more, listed-whole}
+use Rattle.slot.proofs.SlotLaws.{state-read}
+use Rattle.slot.proofs.state_at.Statement.{statement}
+use Rattle.slot.proofs.state_at.Tie as tie
+
+abbrev Inv-loop : tie.InvT-loop
+Inv-loop words at s₀ lr ctr i₀ s i = (i ≤ 32) × (length (s .gpr) ≡ 32) × (take i (s .gpr) ≡ listed (λ (k : ℕ). registerAt words (at + k * 8)) i) × (length (s .cr) ≡ 8)
+
+abbrev μ-loop : tie.MeasureT-loop
+μ-loop words at s₀ lr ctr i₀ s i = 32 - i
+
+abbrev Inv-loop2 : tie.InvT-loop2
+Inv-loop2 words at s₀ lr ctr i j₀ s j = (j ≤ 8) × (s .gpr ≡ listed (λ (k : ℕ). registerAt words (at + k * 8)) 32) × (take j (s .cr) ≡ listed (λ (k : ℕ). compareAt words (at + 256 + k * 8)) j) × (length (s .cr) ≡ 8)
+
+abbrev μ-loop2 : tie.MeasureT-loop2
+μ-loop2 words at s₀ lr ctr i j₀ s j = 8 - j
+
+new-requires : tie.Need-new-requires Inv-loop μ-loop Inv-loop2 μ-loop2
+new-requires c κs = search needs
+
+add-held-at : tie.Need-add-held-at Inv-loop μ-loop Inv-loop2 μ-loop2
+add-held-at c = search needs
+
+held-at-requires : tie.Need-held-at-requires Inv-loop μ-loop Inv-loop2 μ-loop2
+held-at-requires c κs = search needs
+
+add-held-at-2 : tie.Need-add-held-at-2 Inv-loop μ-loop Inv-loop2 μ-loop2
+add-held-at-2 c = search needs
+
+held-at-requires-2 : tie.Need-held-at-requires-2 Inv-loop μ-loop Inv-loop2 μ-loop2
+held-at-requires-2 c κs = search needs
+
+loop-holds : tie.Need-loop-holds Inv-loop μ-loop Inv-loop2 μ-loop2
+unfolding listed
+loop-holds c = rw (c .before .before .new .ensures) (omega arith, refl, refl, refl)
+
+mul-register-at : tie.Need-mul-register-at Inv-loop μ-loop Inv-loop2 μ-loop2
+mul-register-at c = search needs
+
+add-register-at : tie.Need-add-register-at Inv-loop μ-loop Inv-loop2 μ-loop2
+add-register-at c = search needs
+
+register-at-requires : tie.Need-register-at-requires Inv-loop μ-loop Inv-loop2 μ-loop2
+register-at-requires c κs = search needs
+
+mul-t14 : tie.Need-mul-t14 Inv-loop μ-loop Inv-loop2 μ-loop2
+mul-t14 c = search needs
+
+element-set-from-s : tie.Need-element-set-from-s Inv-loop μ-loop Inv-loop2 μ-loop2
+element-set-from-s c = search needs
+
+add-i : tie.Need-add-i Inv-loop μ-loop Inv-loop2 μ-loop2
+add-i c = search needs
+
+loop-less : tie.Need-loop-less Inv-loop μ-loop Inv-loop2 μ-loop2
+loop-less c = search needs
+
+loop-again : tie.Need-loop-again Inv-loop μ-loop Inv-loop2 μ-loop2
+loop-again c =
+    let l = c .before .before in
+    let q = l .loop in
+    let a = l .before .before .before .before .before .args in (
+      omega arith,
+      simp length-set (q .inv .1),
+      rw (c .register-at .ensures) (listed-more (λ (k : ℕ). registerAt (a .words .now) (a .at + k * 8)) (q .s .gpr) (q .i) (omega arith) (q .inv .2)),
+      q .inv .3,
+    )
+
+loop2-holds : tie.Need-loop2-holds Inv-loop μ-loop Inv-loop2 μ-loop2
+unfolding listed
+loop2-holds c =
+    let l = c .before in
+    let q = l .loop in
+    let a = l .before .before .before .before .before .args in
+    (omega arith, listed-whole (λ (k : ℕ). registerAt (a .words .now) (a .at + k * 8)) (q .s .gpr) (q .i) 32 (omega arith) (q .inv .1) (q .inv .2), refl, q .inv .3)
+
+add-compare-at : tie.Need-add-compare-at Inv-loop μ-loop Inv-loop2 μ-loop2
+add-compare-at c = search needs
+
+mul-compare-at : tie.Need-mul-compare-at Inv-loop μ-loop Inv-loop2 μ-loop2
+mul-compare-at c = search needs
+
+add-compare-at-2 : tie.Need-add-compare-at-2 Inv-loop μ-loop Inv-loop2 μ-loop2
+add-compare-at-2 c = search needs
+
+compare-at-requires : tie.Need-compare-at-requires Inv-loop μ-loop Inv-loop2 μ-loop2
+compare-at-requires c κs = search needs
+
+mul-t22 : tie.Need-mul-t22 Inv-loop μ-loop Inv-loop2 μ-loop2
+mul-t22 c = search needs
+
+element-set-from-s-2 : tie.Need-element-set-from-s-2 Inv-loop μ-loop Inv-loop2 μ-loop2
+element-set-from-s-2 c = search needs
+
+add-j : tie.Need-add-j Inv-loop μ-loop Inv-loop2 μ-loop2
+add-j c = search needs
+
+loop2-less : tie.Need-loop2-less Inv-loop μ-loop Inv-loop2 μ-loop2
+loop2-less c = search needs
+
+loop2-again : tie.Need-loop2-again Inv-loop μ-loop Inv-loop2 μ-loop2
+loop2-again c =
+    let l = c .before .before in
+    let q = l .loop2 in
+    let a = l .before .before .before .before .before .before .before .args in (
+      omega arith,
+      q .inv .1,
+      rw (c .compare-at .ensures) (listed-more (λ (k : ℕ). compareAt (a .words .now) (a .at + 256 + k * 8)) (q .s .cr) (q .j) (omega arith) (q .inv .2)),
+      simp length-set (q .inv .3),
+    )
+
+returns : tie.Need-returns Inv-loop μ-loop Inv-loop2 μ-loop2
+returns c =
+    let l = c .before in
+    let q = l .loop2 in
+    let h = l .before .before .before in
+    let a = h .before .before .before .before .args in
+    state-read (a .words .now) (a .at) (q .s) (h .before .held-at .result) (h .held-at2 .result) (q .inv .1)
+    (listed-whole (λ (k : ℕ). compareAt (a .words .now) (a .at + 256 + k * 8)) (q .s .cr) (q .j) 8 (omega arith) (q .inv .3) (q .inv .2))
+    (h .before .held-at .ensures)
+    (h .held-at2 .ensures)
+
+pub state-at-spec : {M : Type 1} → statement M
+state-at-spec =
+    tie.close
+    (tie.spec
+    Inv-loop
+    μ-loop
+    Inv-loop2
+    μ-loop2
+    new-requires
+    add-held-at
+    held-at-requires
+    add-held-at-2
+    held-at-requires-2
+    loop-holds
+    mul-register-at
+    add-register-at
+    register-at-requires
+    mul-t14
+    element-set-from-s
+    add-i
+    loop-less
+    loop-again
+    loop2-holds
+    add-compare-at
+    mul-compare-at
+    add-compare-at-2
+    compare-at-requires
+    mul-t22
+    element-set-from-s-2
+    add-j
+    loop2-less
+    loop2-again
+    returns)

@@ -1,0 +1,118 @@
+// A stack of waiting states in lent words; the caller keeps the count of held states and hands it in.
+// Words and count are a stack (`is_stack` tells); with count 0 the words may be anything. Slots stay where they are, a table orders them.
+pub mod judge;
+pub mod order;
+
+ghost use mathlib.Core.Path.{_≡_};
+ghost use Prim.Native.Nat.{_+_, _-_, _<_, _≤_};
+ghost use lib.ListN.{length};
+ghost use Rattle.stack.specs.Stack.{room, slotAt, highOf, sortedOf, Stack, heldAt};
+ghost use Rattle.stack.specs.Push.{nextSlot, nextHigh, claimed, Pushes};
+use order::room_of;
+use order::slot_at;
+use order::sort;
+use places::SectionAddress;
+use vm::VM;
+
+// Whether a push was taken, and the count after it.
+pub struct Pushed {
+    pub taken: bool,
+    pub count: usize,
+}
+
+// Slots in use.
+fn high_of(words: &[u32], count: usize) -> u32
+    requires { ⌜ (Stack (now words) count) × (count < room (length (now words))) ⌝ }
+    ensures { λ r. ⌜ r ≡ highOf (now (words .entry)) count ⌝ }
+{
+    if count == 0 { 0 } else { words[0] }
+}
+
+// The slot of the next state.
+fn next_slot(words: &[u32], count: usize) -> u32
+    requires { ⌜ (Stack (now words) count) × (count < room (length (now words))) ⌝ }
+    ensures { λ r. ⌜ r ≡ nextSlot (now (words .entry)) count ⌝ }
+{
+    let n = count as u32;
+    if n < high_of(words, count) {
+        words[2 + count]
+    } else {
+        n
+    }
+}
+
+// Slots in use with one state more.
+fn next_high(words: &[u32], count: usize) -> u32
+    requires { ⌜ (Stack (now words) count) × (count < room (length (now words))) ⌝ }
+    ensures { λ r. ⌜ r ≡ nextHigh (now (words .entry)) count ⌝ }
+{
+    let n = count as u32;
+    let high = high_of(words, count);
+    if n < high { high } else { n + 1 }
+}
+
+// A slot for one state more, entered on top: where it begins.
+fn claim(words: &mut [u32], count: usize) -> usize
+    requires { ⌜ (Stack (now words) count) × (count < room (length (now words))) ⌝ }
+    ensures { λ r. ⌜ (r ≡ slotAt (now (words .entry)) (nextSlot (now (words .entry)) count)) × (now (words .exit) ≡ claimed (now (words .entry)) count) ⌝ }
+{
+    let k = next_slot(words, count);
+    let high = next_high(words, count);
+    let sorted = order::sorted_of(words, count);
+    let at = slot_at(words, k);
+    words[0] = high;
+    words[1] = sorted as u32;
+    words[2 + count] = k;
+    at
+}
+
+// One state more: on top, or, sorted, with the whole stack brought in order of place, stably. While all slots are held it is not
+// taken, and nothing is touched.
+pub fn push(words: &mut [u32], count: usize, p: SectionAddress, s: VM, sorted: bool) -> Pushed
+    requires { ⌜ Stack (now words) count ⌝ }
+    ensures { λ r. ⌜ Pushes (now (words .entry)) count p s sorted r (now (words .exit)) ⌝ }
+{
+    if room_of(words.len()) <= count {
+        return Pushed {
+            taken: false,
+            count: count,
+        };
+    }
+    let at = claim(words, count);
+    slot::put_slot(words, at, p, s);
+    if sorted {
+        sort(words, count + 1);
+        return Pushed {
+            taken: true,
+            count: count + 1,
+        };
+    }
+    Pushed {
+        taken: true,
+        count: count + 1,
+    }
+}
+
+// The place of the i-th held state, counted from the lowest: a few reads.
+pub fn held_place(words: &[u32], count: usize, i: usize) -> SectionAddress
+    requires { ⌜ (Stack (now words) count) × (i < count) ⌝ }
+    ensures { λ r. ⌜ r ≡ heldAt (now (words .entry)) i .place ⌝ }
+{
+    slot::place_in(words, slot_at(words, words[2 + i]))
+}
+
+// The place of the state that pops next.
+pub fn top_place(words: &[u32], count: usize) -> SectionAddress
+    requires { ⌜ (Stack (now words) count) × (0 < count) ⌝ }
+    ensures { λ r. ⌜ r ≡ heldAt (now (words .entry)) (count - 1) .place ⌝ }
+{
+    held_place(words, count, count - 1)
+}
+
+// The state that pops next. It is popped by going on with a count one less: the words stay.
+pub fn top_state(words: &[u32], count: usize) -> VM
+    requires { ⌜ (Stack (now words) count) × (0 < count) ⌝ }
+    ensures { λ r. ⌜ r ≡ heldAt (now (words .entry)) (count - 1) .state ⌝ }
+{
+    slot::state_in(words, slot_at(words, words[1 + count]))
+}
