@@ -14,6 +14,7 @@ mod analysis {
     include!(concat!(env!("OUT_DIR"), "/analysis/mod.rs"));
 }
 mod answer;
+mod bench;
 mod classes;
 mod image;
 mod make;
@@ -41,6 +42,7 @@ oracle sample SEED COUNT CASES ANSWERS  out of COUNT cases those that reach a cl
 oracle answer CASES ANSWERS             answers to an existing file of cases
 oracle show CASES N                     case N (from 0), readable, with the oracle's answer
 oracle planted CASES ANSWERS            (built with the feature planted) each wrong version against the right answers
+oracle bench-step WORDS                 steps words, as often as the first says; bench-decoded-step decodes each time
 In front of these: --kinds K  make cases of kinds up to K (8 unless said; at most 12)
                    --plant N  answer as wrong version N (built with the feature planted)";
 
@@ -69,6 +71,8 @@ fn main() {
         ["show", cases, n] => show::show(&read_cases(cases), number(n) as usize),
         ["sample", seed, count, cases, answers] => sample(number(seed), number(count), kinds, cases, answers),
         ["planted", cases, answers] => planted(cases, answers),
+        ["bench-step", words] => bench::step(words, false),
+        ["bench-decoded-step", words] => bench::step(words, true),
         _ => fail(USAGE),
     }
 }
