@@ -1,7 +1,7 @@
 -- `holds` and `apart` mean what they say: a section holds the addresses from its own to its end,
 -- and two sections are apart exactly where no address is in both. Assumes nothing.
 use mathlib.Core.Path.{_≡_}
-use mathlib.Core.Bool.{Bool, true, _&&_}
+use mathlib.Core.Bool.{true}
 use Prim.Native.Nat.{ℕ, _+_, _≤_, _<_, min, max}
 use native.Mathlib.Decide.{decLt}
 use native.Mathlib.Omega.{arith}

@@ -1,6 +1,6 @@
 -- The rules on sections, at each index, as plain facts.
 -- Assumes nothing.
-use mathlib.Core.Path.{_≡_, refl, sym, ap, _∙_}
+use mathlib.Core.Path.{_≡_, refl, sym}
 use mathlib.Core.Bool.{Bool, true, false, _&&_, not}
 use mathlib.Core.List.{List, [], _∷_}
 use Prim.Native.Nat.{ℕ, _+_, _%_, _^_, _≤_, _<_}
@@ -12,7 +12,7 @@ use Rattle.words.specs.Choice.{pick}
 use Rattle.search.specs.Every.{every}
 use Rattle.search.specs.declared.Found.the-variants.{At}
 use Rattle.search.proofs.EveryLaws.{and-left, and-right, every-at}
-use Rattle.search.proofs.FirstMatch.{first-at, first-below, first-holds}
+use Rattle.search.proofs.FirstMatch.{first-at}
 use Rattle.search.proofs.Conjunction.{chain-first, chain-at}
 use Rattle.image.specs.declared.Section.{Section}
 use Rattle.image.specs.Numbers.{executableKind, codeKind, bssKind}

@@ -1,4 +1,5 @@
-// The numbers of document 01 and of the image's words, each named once; specs/Numbers.antt has the same.
+// The numbers of document 01 and of the image's words, each named once.
+// Assumes nothing; specs/Numbers.antt has the same, and the proofs hold the two together.
 
 // Limits: sections, entries in each further table, Code words in all.
 pub const MAX_SECTIONS: u32 = 64;

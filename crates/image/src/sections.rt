@@ -5,7 +5,7 @@ ghost use Prim.Native.Nat.{ℕ, _<_, min, max};
 ghost use Rattle.search.specs.Every.{every};
 ghost use Rattle.image.specs.Layout.{sections, sectionAt};
 ghost use Rattle.image.specs.Laid.{Laid};
-ghost use Rattle.image.specs.Rules.{endOf, holds, aligned, sectionSound, sectionsSound, apart, sectionsApart, dataInside};
+ghost use Rattle.image.specs.Rules.{endOf, aligned, sectionSound, sectionsSound, apart, sectionsApart, dataInside};
 use crate::Section;
 use crate::numbers::BSS;
 use crate::numbers::CODE;
@@ -18,14 +18,6 @@ pub fn end_of(s: Section) -> u64
     ensures { λ r. ⌜ r ≡ endOf s ⌝ }
 {
     s.address as u64 + s.size as u64
-}
-
-// Whether an address lies in a section.
-pub fn is_in(s: Section, a: u32) -> bool
-    ensures { λ r. ⌜ r ≡ holds s a ⌝ }
-{
-    let end = end_of(s);
-    (s.address <= a) & ((a as u64) < end)
 }
 
 // Code address and size are multiples of 4.

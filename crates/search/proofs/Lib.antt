@@ -3,3 +3,4 @@ pub mod FirstLaws
 pub mod FirstMatch
 pub mod EveryLaws
 pub mod Conjunction
+pub mod Answers

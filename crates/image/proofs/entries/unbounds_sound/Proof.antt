@@ -1,21 +1,18 @@
-use Rattle.image.specs.Rules.{unboundSound, unboundsSound}
-use Rattle.image.specs.Layout.{sections, bounds, unbounds, symbols, sectionAt, boundAt, unboundAt, symbolAt}
-use Rattle.search.proofs.EveryLaws.{every-none, every-more, every-fails, every-done}
-use Rattle.search.specs.Every.{every}
-use borrow.Author.Tests.{eq-eqb, ne-eqb, lt-leb, le-leb, not-true, not-false}
-use Prim.Native.Nat.{ℕ, _+_, _-_, _*_, _≤_, _<_}
+-- `image::entries::unbounds_sound` meets its contract: the relocations passed are all sound.
+-- Assumes nothing.
+use Prim.Native.Nat.{ℕ, _-_, _≤_}
 use mathlib.Core.List.{List}
-use mathlib.Core.Bool.{Bool, true, false, not}
-use mathlib.Core.Path.{_≡_, refl, sym, ap, _∙_}
+use mathlib.Core.Bool.{Bool, true}
+use mathlib.Core.Path.{_≡_, sym, ap, _∙_}
 use native.Mathlib.Omega.{arith}
 use borrow.Author.Needs.{needs}
+use Rattle.search.proofs.Answers.{passed, failed}
+use Rattle.search.proofs.EveryLaws.{every-none, every-more, every-fails, every-done}
+use Rattle.search.specs.Every.{every}
+use Rattle.image.specs.Rules.{unboundSound, unboundsSound}
+use Rattle.image.specs.Layout.{unbounds, unboundAt}
 use Rattle.image.proofs.entries.unbounds_sound.Statement.{statement}
 use Rattle.image.proofs.entries.unbounds_sound.Tie as tie
-use Rattle.image.proofs.entries.unbounds_sound.Reads as reads
-use Rattle.image.proofs.entries.unbounds_sound.Lts as lts
-use Rattle.image.proofs.entries.unbound_sound.Reads as unbound-sound-reads
-use Rattle.image.proofs.table.unbound.Reads as unbound-reads
-use Rattle.image.proofs.table.unbound_count.Reads as unbound-count-reads
 
 abbrev sound-at : List ℕ → ℕ → Bool
 sound-at ws j = unboundSound ws (unboundAt ws j)
@@ -26,43 +23,43 @@ Inv-loop im n j₀ j = (j ≤ unbounds im) × (every (sound-at im) j ≡ true)
 abbrev μ-loop : tie.MeasureT-loop
 μ-loop im n j₀ j = n - j
 
--- src/entries.rt:100:9
 unbound-count-requires : tie.Need-unbound-count-requires Inv-loop μ-loop
 unbound-count-requires c κs = search needs
 
--- src/entries.rt:102:5
 loop-holds : tie.Need-loop-holds Inv-loop μ-loop
 loop-holds c = (omega arith, every-none _)
 
--- src/entries.rt:103:31
 unbound-requires : tie.Need-unbound-requires Inv-loop μ-loop
 unbound-requires c κs = search needs
 
--- src/entries.rt:103:13
 unbound-sound-requires : tie.Need-unbound-sound-requires Inv-loop μ-loop
 unbound-sound-requires c κs = search needs
 
--- src/entries.rt:104:13
 returns : tie.Need-returns Inv-loop μ-loop
 unfolding unboundsSound
-returns c = sym (every-fails (sound-at (c .before .before .before .before .before .before .before .args .im .now)) _ (c .before .before .before .before .loop .j) (omega arith) (sym (c .before .unbound-sound .ensures ∙ ap (unboundSound (c .before .before .before .before .before .before .before .args .im .now)) (c .before .before .unbound .ensures)) ∙ not-true _ (c .if1 .taken)))
+returns c =
+    let h = c .before .before .before .before in
+    let a = h .before .before .before .args in
+    sym (every-fails (sound-at (a .im .now)) _ (h .loop .j) (omega arith) (failed (c .before .unbound-sound .ensures ∙ ap (unboundSound (a .im .now)) (c .before .before .unbound .ensures)) (c .if1 .taken)))
 
--- src/entries.rt:106:9
 add-j : tie.Need-add-j Inv-loop μ-loop
 add-j c = search needs
 
--- src/entries.rt:102:5
 loop-less : tie.Need-loop-less Inv-loop μ-loop
 loop-less c = search needs
 
--- src/entries.rt:102:5
 loop-again : tie.Need-loop-again Inv-loop μ-loop
-loop-again c = (omega arith, every-more (sound-at (c .before .before .before .before .before .before .before .args .im .now)) (c .before .before .before .before .loop .j) (c .before .before .before .before .loop .inv .1) (sym (c .before .unbound-sound .ensures ∙ ap (unboundSound (c .before .before .before .before .before .before .before .args .im .now)) (c .before .before .unbound .ensures)) ∙ not-false _ (c .if1 .left)))
+loop-again c =
+    let h = c .before .before .before .before in
+    let a = h .before .before .before .args in
+    (omega arith, every-more (sound-at (a .im .now)) (h .loop .j) (h .loop .inv .1) (passed (c .before .unbound-sound .ensures ∙ ap (unboundSound (a .im .now)) (c .before .before .unbound .ensures)) (c .if1 .left)))
 
--- src/entries.rt:96:1
 returns-2 : tie.Need-returns-2 Inv-loop μ-loop
 unfolding unboundsSound
-returns-2 c = sym (every-done (sound-at (c .before .before .before .before .args .im .now)) _ (c .before .loop .j) (omega arith) (c .before .loop .inv .1))
+returns-2 c =
+    let h = c .before in
+    let a = h .before .before .before .args in
+    sym (every-done (sound-at (a .im .now)) _ (h .loop .j) (omega arith) (h .loop .inv .1))
 
 pub unbounds-sound-spec : {M : Type 1} → statement M
 unbounds-sound-spec =

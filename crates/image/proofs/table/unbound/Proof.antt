@@ -1,92 +1,69 @@
-use native.Mathlib.Omega.{arith}
+-- `image::table::unbound` meets its contract: every word read lies in the table.
+-- Assumes nothing.
 use borrow.Author.Needs.{needs}
 use Rattle.image.proofs.table.unbound.Statement.{statement}
 use Rattle.image.proofs.table.unbound.Tie as tie
-use Rattle.image.proofs.table.unbound.Reads as reads
-use Rattle.image.proofs.table.unbound.Lts as lts
-use Rattle.image.proofs.table.unbounds_from.Reads as unbounds-from-reads
 
--- src/table.rt:100:14
 unbounds-from-requires : tie.Need-unbounds-from-requires
 unbounds-from-requires c κs = search needs
 
--- src/table.rt:100:34
 mul-at : tie.Need-mul-at
 mul-at c = search needs
 
--- src/table.rt:100:14
 add-at : tie.Need-add-at
 add-at c = search needs
 
--- src/table.rt:102:18
 mul-t4 : tie.Need-mul-t4
 mul-t4 c = search needs
 
--- src/table.rt:102:18
 shared-slice-read-t7 : tie.Need-shared-slice-read-t7
 shared-slice-read-t7 c = search needs
 
--- src/table.rt:103:21
 add-t5 : tie.Need-add-t5
 add-t5 c = search needs
 
--- src/table.rt:103:18
 mul-t8 : tie.Need-mul-t8
 mul-t8 c = search needs
 
--- src/table.rt:103:18
 shared-slice-read-t10 : tie.Need-shared-slice-read-t10
 shared-slice-read-t10 c = search needs
 
--- src/table.rt:104:20
 add-t11 : tie.Need-add-t11
 add-t11 c = search needs
 
--- src/table.rt:104:17
 mul-t12 : tie.Need-mul-t12
 mul-t12 c = search needs
 
--- src/table.rt:104:17
 shared-slice-read-t14 : tie.Need-shared-slice-read-t14
 shared-slice-read-t14 c = search needs
 
--- src/table.rt:105:18
 add-t15 : tie.Need-add-t15
 add-t15 c = search needs
 
--- src/table.rt:105:15
 mul-t16 : tie.Need-mul-t16
 mul-t16 c = search needs
 
--- src/table.rt:105:15
 shared-slice-read-t18 : tie.Need-shared-slice-read-t18
 shared-slice-read-t18 c = search needs
 
--- src/table.rt:106:20
 add-t19 : tie.Need-add-t19
 add-t19 c = search needs
 
--- src/table.rt:106:17
 mul-t20 : tie.Need-mul-t20
 mul-t20 c = search needs
 
--- src/table.rt:106:17
 shared-slice-read-t22 : tie.Need-shared-slice-read-t22
 shared-slice-read-t22 c = search needs
 
--- src/table.rt:107:20
 add-t23 : tie.Need-add-t23
 add-t23 c = search needs
 
--- src/table.rt:107:17
 mul-t24 : tie.Need-mul-t24
 mul-t24 c = search needs
 
--- src/table.rt:107:17
 shared-slice-read-t26 : tie.Need-shared-slice-read-t26
 shared-slice-read-t26 c = search needs
 
--- src/table.rt:96:1
 returns : tie.Need-returns
 returns c = rw (c .before .before .before .before .before .before .unbounds-from .ensures)
 
