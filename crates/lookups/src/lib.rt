@@ -1,8 +1,6 @@
 // Every lookup in an image, by the names of the Rust where it has them.
 // Each requires sound tables (image::check_image says so) and is called by our own crates alone.
-use places::MaybeTarget;
 use places::RelocationTarget;
-use places::SectionAddress;
 
 pub mod bytes;
 pub mod code;

@@ -2,10 +2,10 @@
 // Requires sound tables.
 ghost use mathlib.Core.Path.{_≡_};
 ghost use mathlib.Core.Bool.{true};
-ghost use Prim.Native.Nat.{ℕ, _+_, _*_, _≤_, _<_};
+ghost use Prim.Native.Nat.{_+_, _*_, _≤_, _<_};
 ghost use lib.ListN.{length};
 ghost use Rattle.search.specs.First.{first};
-ghost use Rattle.image.specs.Layout.{sections, unboundsFrom};
+ghost use Rattle.image.specs.Layout.{unboundsFrom};
 ghost use Rattle.image.specs.Rules.{tablesSound};
 ghost use Rattle.lookups.specs.Relocations.{differs, boundTarget, entryIs, unboundHere, unboundIndex, intoSection, unboundTarget, unboundFor, relocationFor, targetAt, placeIn, bareAddress, sectionAddressFor};
 use crate::Relocation;
