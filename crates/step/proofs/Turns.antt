@@ -151,7 +151,7 @@ unfolding doneOf leaveBy
 step-off {ws} {code} {r} {i} {p} {t} {w} {d} {a} {b} {dec} {e} {way} {l} run room ew ed ea eb edec ee ex el =
     let h : effectIn ws p (be32 code i) t ≡ Leaves way = subst (λ (v : ℕ). effectIn ws p v t ≡ Leaves way) ew (effect-here ws p w t ed ea eb edec ee ex) in
     let on : l ≡ leaveOf way ws p (be32 code i) (t .ctr .value) (crAt t (biOf (be32 code i) / 4)) =
-          subst (λ (v : ℕ). l ≡ leaveOf way ws p v (t .ctr .value) (crAt t (biOf v / 4))) ew el in
+    subst (λ (v : ℕ). l ≡ leaveOf way ws p v (t .ctr .value) (crAt t (biOf v / 4))) ew el in
     ap (λ (k : Leave). stoppedAt k p t) on ∙ sym (left-stops (leaveOf way ws p (be32 code i) (t .ctr .value) (crAt t (biOf (be32 code i) / 4))) p t _ _) ∙ split-off run room h
 
 -- no word is left

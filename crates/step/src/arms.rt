@@ -18,7 +18,15 @@ use words::field;
 use words::mask;
 
 // gs, ga and gb are the records of rS (the bits of rD), rA and rB.
-pub fn effect(im: &[u32], at: SectionAddress, w: u32, dec: Decoded, gs: Gpr, ga: Gpr, gb: Gpr) -> Effect
+pub fn effect(
+    im: &[u32],
+    at: SectionAddress,
+    w: u32,
+    dec: Decoded,
+    gs: Gpr,
+    ga: Gpr,
+    gb: Gpr,
+) -> Effect
     requires { ⌜ tablesSound (now im) ≡ true ⌝ }
     ensures { λ r. ⌜ r ≡ effectOf dec (now (im .entry)) at w gs ga gb ⌝ }
 {

@@ -3,11 +3,13 @@
 ghost use mathlib.Core.Path.{_≡_};
 ghost use lib.ListN.{length};
 ghost use Rattle.step.specs.Step.{steppedOf, refusedOf};
+
 pub mod arms;
 pub mod done;
 pub mod records;
 pub mod runs;
 pub mod ways;
+
 use decoder::Writes;
 use image::Judged;
 use lookups::CodePlace;
@@ -79,14 +81,8 @@ pub enum Effect {
     FromLr,
     FromCtr,
     // rA's record after it, and what it reached; a Load also makes rD Unknown.
-    Load {
-        base: Gpr,
-        seen: MaybeTarget,
-    },
-    Store {
-        base: Gpr,
-        seen: MaybeTarget,
-    },
+    Load { base: Gpr, seen: MaybeTarget },
+    Store { base: Gpr, seen: MaybeTarget },
     Clear(Writes),
     Leaves(Way),
 }
