@@ -5,3 +5,5 @@ pub mod Judging
 pub mod Masks
 pub mod Targets
 pub mod Turns
+pub mod Laws
+pub mod Cases

@@ -2,3 +2,4 @@
 pub mod Values
 pub mod Lists
 pub mod Shape
+pub mod Whole

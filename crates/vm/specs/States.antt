@@ -1,8 +1,7 @@
 -- States: new ones, those of the two sides of a call, and changes to all registers.
 -- Assumes nothing.
-use Prim.Native.Nat.{ℕ, suc}
-use mathlib.Core.Bool.{Bool}
-use mathlib.Core.List.{List, [], _∷_, _++_, map}
+use Prim.Native.Nat.{ℕ}
+use mathlib.Core.List.{_++_, map}
 use lib.ListN.{take, drop, replicate}
 use lib.Dec.{eqb}
 use Rattle.words.specs.Choice.{pick}
@@ -50,11 +49,3 @@ resultOf v k g = onMark (g .value) (λ j. pick (eqb j k) (marked g v) g) g
 -- set_comparison_result
 abbrev pub withResult : VM → GprValue → ℕ → VM
 withResult s v k = withGprs s (map (resultOf v k) (s .gpr))
-
--- each register r with f r becomes Unknown; the list begins at register i
-unfoldable pub clearedFrom : (ℕ → Bool) → ℕ → List Gpr → List Gpr
-clearedFrom f i [] = []
-clearedFrom f i (g ∷ gs) = pick (f i) blank g ∷ clearedFrom f (suc i) gs
-
-abbrev pub clearedOf : VM → (ℕ → Bool) → VM
-clearedOf s f = withGprs s (clearedFrom f 0 (s .gpr))

@@ -1,32 +1,24 @@
-use native.Mathlib.Omega.{arith}
+-- `step::done::access_result` meets its contract.
+-- Assumes nothing.
 use borrow.Author.Needs.{needs}
 use Rattle.step.proofs.done.access_result.Statement.{statement}
 use Rattle.step.proofs.done.access_result.Tie as tie
-use Rattle.step.proofs.done.access_result.Reads as reads
-use Rattle.step.proofs.done.access_result.Lts as lts
-use Rattle.words.proofs.field.ra.Reads as ra-reads
 
--- src/done.rt:36:13
 ra-requires : tie.Need-ra-requires
 ra-requires c κs = search needs
 
--- src/done.rt:36:13
 cast-a : tie.Need-cast-a
 cast-a c = search needs
 
--- src/done.rt:38:28
 enum-known-seen : tie.Need-enum-known-seen
 enum-known-seen c = search needs
 
--- src/done.rt:43:33
 enum-told : tie.Need-enum-told
 enum-told c = search needs
 
--- src/done.rt:33:1
 returns : tie.Need-returns
 returns c = rw (c .before .before .before .ra .ensures, c .before .seen .given .1)
 
--- src/done.rt:33:1
 returns-2 : tie.Need-returns-2
 returns-2 c = search needs
 

@@ -1,64 +1,46 @@
+-- `step::records::addis` meets its contract.
+-- Assumes nothing.
 use borrow.Author.Tests.{eq-eqb, ne-eqb}
-use Rattle.step.specs.Arms.{addisGpr}
-use native.Mathlib.Omega.{arith}
 use borrow.Author.Needs.{needs}
+use Rattle.step.specs.Arms.{addisGpr}
 use Rattle.step.proofs.records.addis.Statement.{statement}
 use Rattle.step.proofs.records.addis.Tie as tie
-use Rattle.step.proofs.records.addis.Reads as reads
-use Rattle.step.proofs.records.addis.Lts as lts
-use Rattle.vm.proofs.register.set_direct.Reads as set-direct-reads
-use Rattle.vm.proofs.register.set_hi.Reads as set-hi-reads
-use Rattle.vm.proofs.rule.addis.Reads as addis-reads
-use Rattle.words.proofs.field.ra.Reads as ra-reads
-use Rattle.words.proofs.field.simm.Reads as simm-reads
 
--- src/records.rt:28:28
 enum-known-known : tie.Need-enum-known-known
 enum-known-known c = search needs
 
--- src/records.rt:28:34
 set-hi-requires : tie.Need-set-hi-requires
 set-hi-requires c κs = search needs
 
--- src/records.rt:30:17
 enum-told : tie.Need-enum-told
 enum-told c = search needs
 
--- src/records.rt:30:17
 simm-requires : tie.Need-simm-requires
 simm-requires c κs = search needs
 
--- src/records.rt:31:16
 ra-requires : tie.Need-ra-requires
 ra-requires c κs = search needs
 
--- src/records.rt:33:24
 addis-requires : tie.Need-addis-requires
 addis-requires c κs = search needs
 
--- src/records.rt:33:17
 set-hi-requires-2 : tie.Need-set-hi-requires-2
 set-hi-requires-2 c κs = search needs
 
--- src/records.rt:35:28
 addis-requires-2 : tie.Need-addis-requires-2
 addis-requires-2 c κs = search needs
 
--- src/records.rt:35:17
 set-direct-requires : tie.Need-set-direct-requires
 set-direct-requires c κs = search needs
 
--- src/records.rt:24:1
 returns : tie.Need-returns
 unfolding addisGpr
 returns c = rw (c .set-hi .ensures, c .before .before .known .given .1)
 
--- src/records.rt:24:1
 returns-2 : tie.Need-returns-2
 unfolding addisGpr
 returns-2 c = rw (c .set-hi2 .ensures, c .before .addis .ensures, c .before .before .before .before .simm .ensures, c .before .before .before .before .before .enum-told .given .1, ← c .before .before .before .ra .ensures, eq-eqb _ _ (c .before .before .if1 .taken))
 
--- src/records.rt:24:1
 returns-3 : tie.Need-returns-3
 unfolding addisGpr
 returns-3 c = rw (c .set-direct .ensures, c .before .addis2 .ensures, c .before .before .before .before .simm .ensures, c .before .before .before .before .before .enum-told .given .1, ← c .before .before .before .ra .ensures, ne-eqb _ _ (c .before .before .if1 .left))

@@ -1,33 +1,25 @@
-use Rattle.vm.proofs.Values.{not-place}
-use native.Mathlib.Omega.{arith}
+-- `step::records::address` meets its contract.
+-- Assumes nothing.
 use borrow.Author.Needs.{needs}
+use Rattle.vm.proofs.Values.{not-place}
 use Rattle.step.proofs.records.address.Statement.{statement}
 use Rattle.step.proofs.records.address.Tie as tie
-use Rattle.step.proofs.records.address.Reads as reads
-use Rattle.step.proofs.records.address.Lts as lts
-use Rattle.lookups.proofs.section_address_for.Reads as section-address-for-reads
 
--- src/records.rt:137:28
 enum-known-value : tie.Need-enum-known-value
 enum-known-value c = search needs
 
--- src/records.rt:137:34
 section-address-for-requires : tie.Need-section-address-for-requires
 section-address-for-requires c κs = search needs
 
--- src/records.rt:138:27
 enum-known-value-2 : tie.Need-enum-known-value-2
 enum-known-value-2 c = search needs
 
--- src/records.rt:132:1
 returns : tie.Need-returns
 returns c = rw (c .section-address-for .ensures, c .before .before .value .given .1)
 
--- src/records.rt:132:1
 returns-2 : tie.Need-returns-2
 returns-2 c = rw (c .before .value2 .given .1)
 
--- src/records.rt:132:1
 returns-3 : tie.Need-returns-3
 returns-3 c = rw (not-place _ _ _ _ (c .match .keys3))
 

@@ -1,28 +1,22 @@
+-- `step::records::mtspr` meets its contract.
+-- Assumes nothing.
 use borrow.Author.Tests.{ne-eqb}
-use Rattle.step.specs.Arms.{toSpr}
-use native.Mathlib.Omega.{arith}
 use borrow.Author.Needs.{needs}
+use Rattle.step.specs.Arms.{toSpr}
 use Rattle.step.proofs.records.mtspr.Statement.{statement}
 use Rattle.step.proofs.records.mtspr.Tie as tie
-use Rattle.step.proofs.records.mtspr.Reads as reads
-use Rattle.step.proofs.records.mtspr.Lts as lts
-use Rattle.words.proofs.field.spr.Reads as spr-reads
 
--- src/records.rt:111:9
 spr-requires : tie.Need-spr-requires
 spr-requires c κs = search needs
 
--- src/records.rt:108:1
 returns : tie.Need-returns
 unfolding toSpr
 returns c = rw (← c .before .spr .ensures, c .match .keys1)
 
--- src/records.rt:108:1
 returns-2 : tie.Need-returns-2
 unfolding toSpr
 returns-2 c = rw (← c .before .spr .ensures, c .match .keys2)
 
--- src/records.rt:108:1
 returns-3 : tie.Need-returns-3
 unfolding toSpr
 returns-3 c = rw (← c .before .spr .ensures, ne-eqb _ _ (c .match .rest .0 .1), ne-eqb _ _ (c .match .rest .1))

@@ -1,44 +1,32 @@
-use Rattle.step.specs.Arms.{oriGpr}
-use native.Mathlib.Omega.{arith}
+-- `step::records::ori` meets its contract.
+-- Assumes nothing.
 use borrow.Author.Needs.{needs}
+use Rattle.step.specs.Arms.{oriGpr}
 use Rattle.step.proofs.records.ori.Statement.{statement}
 use Rattle.step.proofs.records.ori.Tie as tie
-use Rattle.step.proofs.records.ori.Reads as reads
-use Rattle.step.proofs.records.ori.Lts as lts
-use Rattle.vm.proofs.register.set_lo.Reads as set-lo-reads
-use Rattle.vm.proofs.rule.ori.Reads as ori-reads
-use Rattle.words.proofs.field.uimm.Reads as uimm-reads
 
--- src/records.rt:65:28
 enum-known-known : tie.Need-enum-known-known
 enum-known-known c = search needs
 
--- src/records.rt:65:34
 set-lo-requires : tie.Need-set-lo-requires
 set-lo-requires c κs = search needs
 
--- src/records.rt:67:17
 enum-told : tie.Need-enum-told
 enum-told c = search needs
 
--- src/records.rt:68:17
 uimm-requires : tie.Need-uimm-requires
 uimm-requires c κs = search needs
 
--- src/records.rt:69:20
 ori-requires : tie.Need-ori-requires
 ori-requires c κs = search needs
 
--- src/records.rt:69:13
 set-lo-requires-2 : tie.Need-set-lo-requires-2
 set-lo-requires-2 c κs = search needs
 
--- src/records.rt:61:1
 returns : tie.Need-returns
 unfolding oriGpr
 returns c = rw (c .set-lo .ensures, c .before .before .known .given .1)
 
--- src/records.rt:61:1
 returns-2 : tie.Need-returns-2
 unfolding oriGpr
 returns-2 c = rw (c .set-lo2 .ensures, c .before .ori .ensures, c .before .before .uimm .ensures, c .before .before .before .enum-told .given .1)

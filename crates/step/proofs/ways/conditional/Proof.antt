@@ -1,42 +1,31 @@
+-- `step::ways::conditional` meets its contract.
+-- Assumes nothing.
 use borrow.Author.Tests.{ne-eqb}
-use Rattle.step.specs.Ways.{conditionalOf}
-use native.Mathlib.Omega.{arith}
 use borrow.Author.Needs.{needs}
+use Rattle.step.specs.Ways.{conditionalOf}
 use Rattle.step.proofs.ways.conditional.Statement.{statement}
 use Rattle.step.proofs.ways.conditional.Tie as tie
-use Rattle.step.proofs.ways.conditional.Reads as reads
-use Rattle.step.proofs.ways.conditional.Lts as lts
-use Rattle.vm.proofs.splits.split_values_by_crb.Reads as split-values-by-crb-reads
-use Rattle.words.proofs.field.bi.Reads as bi-reads
-use Rattle.words.proofs.field.bo.Reads as bo-reads
 
--- src/ways.rt:62:9
 bi-requires : tie.Need-bi-requires
 bi-requires c κs = search needs
 
--- src/ways.rt:63:9
 split-values-by-crb-requires : tie.Need-split-values-by-crb-requires
 split-values-by-crb-requires c κs = search needs
 
--- src/ways.rt:66:15
 cast-crf : tie.Need-cast-crf
 cast-crf c = search needs
 
--- src/ways.rt:67:19
 bo-requires : tie.Need-bo-requires
 bo-requires c κs = search needs
 
--- src/ways.rt:59:1
 returns : tie.Need-returns
 unfolding conditionalOf
 returns c = rw (c .before .before .split-values-by-crb .ensures, c .before .before .before .bi .ensures, ← c .before .bo .ensures, c .match .keys1)
 
--- src/ways.rt:59:1
 returns-2 : tie.Need-returns-2
 unfolding conditionalOf
 returns-2 c = rw (c .before .before .split-values-by-crb .ensures, c .before .before .before .bi .ensures, ← c .before .bo .ensures, c .match .keys2)
 
--- src/ways.rt:59:1
 returns-3 : tie.Need-returns-3
 unfolding conditionalOf
 returns-3 c = rw (← c .before .bo .ensures, ne-eqb _ _ (c .match .rest .0 .1), ne-eqb _ _ (c .match .rest .1))

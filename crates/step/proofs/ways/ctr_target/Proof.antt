@@ -1,55 +1,40 @@
-use Rattle.step.proofs.Targets.{no-target}
-use native.Mathlib.Omega.{arith}
+-- `step::ways::ctr_target` meets its contract.
+-- Assumes nothing.
 use borrow.Author.Needs.{needs}
+use Rattle.step.proofs.Targets.{no-target}
 use Rattle.step.proofs.ways.ctr_target.Statement.{statement}
 use Rattle.step.proofs.ways.ctr_target.Tie as tie
-use Rattle.step.proofs.ways.ctr_target.Reads as reads
-use Rattle.step.proofs.ways.ctr_target.Lts as lts
-use Rattle.lookups.proofs.section_address_for.Reads as section-address-for-reads
-use Rattle.step.proofs.ways.reached.Reads as reached-reads
-use Rattle.vm.proofs.rule.size.Reads as size-reads
 
--- src/ways.rt:39:28
 enum-known-ctr : tie.Need-enum-known-ctr
 enum-known-ctr c = search needs
 
--- src/ways.rt:39:42
 section-address-for-requires : tie.Need-section-address-for-requires
 section-address-for-requires c κs = search needs
 
--- src/ways.rt:39:34
 reached-requires : tie.Need-reached-requires
 reached-requires c κs = search needs
 
--- src/ways.rt:40:27
 enum-known-ctr-2 : tie.Need-enum-known-ctr-2
 enum-known-ctr-2 c = search needs
 
--- src/ways.rt:42:13
 enum-known-ctr-3 : tie.Need-enum-known-ctr-3
 enum-known-ctr-3 c = search needs
 
--- src/ways.rt:48:21
 size-requires : tie.Need-size-requires
 size-requires c κs = search needs
 
--- src/ways.rt:34:1
 returns : tie.Need-returns
 returns c = rw (c .reached .ensures, c .before .section-address-for .ensures, c .before .before .before .ctr .given .1)
 
--- src/ways.rt:34:1
 returns-2 : tie.Need-returns-2
 returns-2 c = rw (c .before .ctr2 .given .1)
 
--- src/ways.rt:34:1
 returns-3 : tie.Need-returns-3
 returns-3 c = rw (c .before .before .ctr3 .given .1, c .if1 .taken)
 
--- src/ways.rt:34:1
 returns-4 : tie.Need-returns-4
 returns-4 c = rw (c .size .ensures, c .before .before .before .ctr3 .given .1, c .before .if1 .left)
 
--- src/ways.rt:34:1
 returns-5 : tie.Need-returns-5
 returns-5 c = rw (no-target _ _ _ (c .match .keys4))
 

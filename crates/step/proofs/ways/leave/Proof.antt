@@ -1,134 +1,97 @@
-use Rattle.step.specs.Ways.{leaveOf}
-use native.Mathlib.Omega.{arith}
+-- `step::ways::leave` meets its contract.
+-- Assumes nothing.
 use borrow.Author.Needs.{needs}
+use Rattle.step.specs.Ways.{leaveOf}
 use Rattle.step.proofs.ways.leave.Statement.{statement}
 use Rattle.step.proofs.ways.leave.Tie as tie
-use Rattle.step.proofs.ways.leave.Reads as reads
-use Rattle.step.proofs.ways.leave.Lts as lts
-use Rattle.decoder.proofs.branch_dest.Reads as branch-dest-reads
-use Rattle.lookups.proofs.section_address_for.Reads as section-address-for-reads
-use Rattle.step.proofs.ways.branch.Reads as branch-reads
-use Rattle.step.proofs.ways.ctr_target.Reads as ctr-target-reads
-use Rattle.step.proofs.ways.reached.Reads as reached-reads
-use Rattle.words.proofs.field.aa.Reads as aa-reads
-use Rattle.words.proofs.field.bo.Reads as bo-reads
-use Rattle.words.proofs.field.lk.Reads as lk-reads
 
--- src/ways.rt:104:18
 bo-requires : tie.Need-bo-requires
 bo-requires c κs = search needs
 
--- src/ways.rt:106:25
 enum-told : tie.Need-enum-told
 enum-told c = search needs
 
--- src/ways.rt:108:17
 enum-told-2 : tie.Need-enum-told-2
 enum-told-2 c = search needs
 
--- src/ways.rt:108:17
 lk-requires : tie.Need-lk-requires
 lk-requires c κs = search needs
 
--- src/ways.rt:109:17
 aa-requires : tie.Need-aa-requires
 aa-requires c κs = search needs
 
--- src/ways.rt:114:21
 branch-dest-requires : tie.Need-branch-dest-requires
 branch-dest-requires c κs = search needs
 
--- src/ways.rt:115:38
 section-address-for-requires : tie.Need-section-address-for-requires
 section-address-for-requires c κs = search needs
 
--- src/ways.rt:115:21
 reached-requires : tie.Need-reached-requires
 reached-requires c κs = search needs
 
--- src/ways.rt:116:17
 branch-requires : tie.Need-branch-requires
 branch-requires c κs = search needs
 
--- src/ways.rt:120:17
 enum-told-3 : tie.Need-enum-told-3
 enum-told-3 c = search needs
 
--- src/ways.rt:120:17
 branch-dest-requires-2 : tie.Need-branch-dest-requires-2
 branch-dest-requires-2 c κs = search needs
 
--- src/ways.rt:121:34
 section-address-for-requires-2 : tie.Need-section-address-for-requires-2
 section-address-for-requires-2 c κs = search needs
 
--- src/ways.rt:121:17
 reached-requires-2 : tie.Need-reached-requires-2
 reached-requires-2 c κs = search needs
 
--- src/ways.rt:122:13
 branch-requires-2 : tie.Need-branch-requires-2
 branch-requires-2 c κs = search needs
 
--- src/ways.rt:125:50
 enum-told-4 : tie.Need-enum-told-4
 enum-told-4 c = search needs
 
--- src/ways.rt:125:50
 lk-requires-2 : tie.Need-lk-requires-2
 lk-requires-2 c κs = search needs
 
--- src/ways.rt:125:17
 ctr-target-requires : tie.Need-ctr-target-requires
 ctr-target-requires c κs = search needs
 
--- src/ways.rt:126:13
 branch-requires-3 : tie.Need-branch-requires-3
 branch-requires-3 c κs = search needs
 
--- src/ways.rt:128:40
 enum-told-5 : tie.Need-enum-told-5
 enum-told-5 c = search needs
 
--- src/ways.rt:128:22
 branch-requires-4 : tie.Need-branch-requires-4
 branch-requires-4 c κs = search needs
 
--- src/ways.rt:129:33
 enum-told-6 : tie.Need-enum-told-6
 enum-told-6 c = search needs
 
--- src/ways.rt:100:1
 returns : tie.Need-returns
 unfolding leaveOf
 returns c = rw (c .enum-told .given .1)
 
--- src/ways.rt:100:1
 returns-2 : tie.Need-returns-2
 unfolding leaveOf
 returns-2 c = rw (c .before .before .before .enum-told2 .given .1, ← c .before .before .lk .ensures, ← c .before .aa .ensures, c .if1 .taken)
 
--- src/ways.rt:100:1
 returns-3 : tie.Need-returns-3
 unfolding leaveOf
 returns-3 c = rw (c .branch .ensures, c .before .reached .ensures, c .before .before .section-address-for .ensures, c .before .before .before .branch-dest .ensures, c .before .before .before .before .before .before .before .enum-told2 .given .1, ← c .before .before .before .before .before .before .lk .ensures, ← c .before .before .before .before .before .aa .ensures, c .before .before .before .before .if1 .left)
 
--- src/ways.rt:100:1
 returns-4 : tie.Need-returns-4
 unfolding leaveOf
 returns-4 c = rw (c .branch2 .ensures, c .before .reached2 .ensures, c .before .before .section-address-for2 .ensures, c .before .before .before .branch-dest2 .ensures, c .before .before .before .before .before .before .bo .ensures, c .before .before .before .before .enum-told3 .given .1)
 
--- src/ways.rt:100:1
 returns-5 : tie.Need-returns-5
 unfolding leaveOf
 returns-5 c = rw (c .branch3 .ensures, c .before .ctr-target .ensures, c .before .before .lk2 .ensures, c .before .before .before .before .before .bo .ensures, c .before .before .before .enum-told4 .given .1)
 
--- src/ways.rt:100:1
 returns-6 : tie.Need-returns-6
 unfolding leaveOf
 returns-6 c = rw (c .branch4 .ensures, c .before .before .before .bo .ensures, c .before .enum-told5 .given .1)
 
--- src/ways.rt:100:1
 returns-7 : tie.Need-returns-7
 unfolding leaveOf
 returns-7 c = rw (c .enum-told6 .given .1)

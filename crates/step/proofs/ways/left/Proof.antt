@@ -1,85 +1,63 @@
-use Rattle.step.specs.Ways.{leftOf}
-use native.Mathlib.Omega.{arith}
+-- `step::ways::left` meets its contract.
+-- Assumes nothing.
 use borrow.Author.Needs.{needs}
+use Rattle.step.specs.Ways.{leftOf}
 use Rattle.step.proofs.ways.left.Statement.{statement}
 use Rattle.step.proofs.ways.left.Tie as tie
-use Rattle.step.proofs.ways.left.Reads as reads
-use Rattle.step.proofs.ways.left.Lts as lts
-use Rattle.places.proofs.offset.Reads as offset-reads
-use Rattle.vm.proofs.state.clone_for_link.Reads as clone-for-link-reads
-use Rattle.vm.proofs.state.clone_for_return.Reads as clone-for-return-reads
-use Rattle.vm.proofs.state.set_comparison_result.Reads as set-comparison-result-reads
 
--- src/ways.rt:137:64
 offset-requires : tie.Need-offset-requires
 offset-requires c κs = search needs
 
--- src/ways.rt:144:21
 enum-told : tie.Need-enum-told
 enum-told c = search needs
 
--- src/ways.rt:149:21
 enum-told-2 : tie.Need-enum-told-2
 enum-told-2 c = search needs
 
--- src/ways.rt:153:21
 enum-known-l : tie.Need-enum-known-l
 enum-known-l c = search needs
 
--- src/ways.rt:158:21
 enum-known-l-2 : tie.Need-enum-known-l-2
 enum-known-l-2 c = search needs
 
--- src/ways.rt:168:21
 clone-for-return-requires : tie.Need-clone-for-return-requires
 clone-for-return-requires c κs = search needs
 
--- src/ways.rt:169:24
 clone-for-link-requires : tie.Need-clone-for-link-requires
 clone-for-link-requires c κs = search needs
 
--- src/ways.rt:173:13
 enum-known-l-3 : tie.Need-enum-known-l-3
 enum-known-l-3 c = search needs
 
--- src/ways.rt:187:21
 set-comparison-result-requires : tie.Need-set-comparison-result-requires
 set-comparison-result-requires c κs = search needs
 
--- src/ways.rt:188:24
 set-comparison-result-requires-2 : tie.Need-set-comparison-result-requires-2
 set-comparison-result-requires-2 c κs = search needs
 
--- src/ways.rt:191:21
 enum-known-l-4 : tie.Need-enum-known-l-4
 enum-known-l-4 c = search needs
 
--- src/ways.rt:134:1
 returns : tie.Need-returns
 unfolding leftOf
 returns c = rw (c .enum-told .given .1)
 
--- src/ways.rt:134:1
 returns-2 : tie.Need-returns-2
 unfolding leftOf
 returns-2 c = rw (c .enum-told2 .given .1)
 
--- src/ways.rt:134:1
 returns-3 : tie.Need-returns-3
 unfolding leftOf
 returns-3 c = rw (c .before .l .given .1)
 
--- src/ways.rt:134:1
 returns-4 : tie.Need-returns-4
 unfolding leftOf
 returns-4 c = rw (c .clone-for-link .ensures, c .before .clone-for-return .ensures, c .before .before .before .before .before .offset .ensures, c .before .before .before .l2 .given .1)
 
--- src/ways.rt:134:1
 returns-5 : tie.Need-returns-5
 unfolding leftOf
 returns-5 c = rw (c .set-comparison-result2 .ensures, c .before .set-comparison-result .ensures, c .before .before .before .before .before .offset .ensures, c .before .before .before .l3 .given .1)
 
--- src/ways.rt:134:1
 returns-6 : tie.Need-returns-6
 unfolding leftOf
 returns-6 c = rw (c .before .before .before .offset .ensures, c .before .l4 .given .1)

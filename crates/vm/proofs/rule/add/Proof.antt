@@ -1,66 +1,49 @@
-use Rattle.vm.proofs.Values.{not-const, not-place}
-use native.Mathlib.Omega.{arith}
+-- `vm::rule::add` meets its contract.
+-- Assumes nothing.
 use borrow.Author.Needs.{needs}
+use Rattle.vm.proofs.Values.{not-const, not-place}
 use Rattle.vm.proofs.rule.add.Statement.{statement}
 use Rattle.vm.proofs.rule.add.Tie as tie
-use Rattle.vm.proofs.rule.add.Reads as reads
-use Rattle.vm.proofs.rule.add.Lts as lts
-use Rattle.vm.proofs.rule.offset.Reads as offset-reads
-use Rattle.words.proofs.sum.wrapping_add.Reads as wrapping-add-reads
 
--- src/rule.rt:35:28
 enum-known-left : tie.Need-enum-known-left
 enum-known-left c = search needs
 
--- src/rule.rt:36:32
 enum-known-right : tie.Need-enum-known-right
 enum-known-right c = search needs
 
--- src/rule.rt:36:57
 wrapping-add-requires : tie.Need-wrapping-add-requires
 wrapping-add-requires c κs = search needs
 
--- src/rule.rt:37:31
 enum-known-right-2 : tie.Need-enum-known-right-2
 enum-known-right-2 c = search needs
 
--- src/rule.rt:37:37
 offset-requires : tie.Need-offset-requires
 offset-requires c κs = search needs
 
--- src/rule.rt:40:27
 enum-known-left-2 : tie.Need-enum-known-left-2
 enum-known-left-2 c = search needs
 
--- src/rule.rt:41:32
 enum-known-right-3 : tie.Need-enum-known-right-3
 enum-known-right-3 c = search needs
 
--- src/rule.rt:41:38
 offset-requires-2 : tie.Need-offset-requires-2
 offset-requires-2 c κs = search needs
 
--- src/rule.rt:31:1
 returns : tie.Need-returns
 returns c = rw (c .wrapping-add .ensures, c .before .before .before .before .before .left .given .1, c .before .before .right .given .1)
 
--- src/rule.rt:31:1
 returns-2 : tie.Need-returns-2
 returns-2 c = rw (c .offset .ensures, c .before .before .before .before .before .left .given .1, c .before .before .right2 .given .1)
 
--- src/rule.rt:31:1
 returns-3 : tie.Need-returns-3
 returns-3 c = rw (c .before .before .left .given .1, not-place _ _ _ _ (c .match2 .keys3))
 
--- src/rule.rt:31:1
 returns-4 : tie.Need-returns-4
 returns-4 c = rw (c .offset2 .ensures, c .before .before .before .before .before .left2 .given .1, c .before .before .right3 .given .1)
 
--- src/rule.rt:31:1
 returns-5 : tie.Need-returns-5
 returns-5 c = rw (c .before .before .left2 .given .1, not-const _ _ _ (c .match3 .keys2))
 
--- src/rule.rt:31:1
 returns-6 : tie.Need-returns-6
 returns-6 c = rw (not-place _ _ _ _ (c .match .keys3))
 

@@ -1,38 +1,28 @@
-use Rattle.vm.proofs.Values.{not-place}
-use native.Mathlib.Omega.{arith}
+-- `vm::rule::addi` meets its contract.
+-- Assumes nothing.
 use borrow.Author.Needs.{needs}
+use Rattle.vm.proofs.Values.{not-place}
 use Rattle.vm.proofs.rule.addi.Statement.{statement}
 use Rattle.vm.proofs.rule.addi.Tie as tie
-use Rattle.vm.proofs.rule.addi.Reads as reads
-use Rattle.vm.proofs.rule.addi.Lts as lts
-use Rattle.vm.proofs.rule.offset.Reads as offset-reads
-use Rattle.words.proofs.sum.wrapping_add.Reads as wrapping-add-reads
 
--- src/rule.rt:61:28
 enum-known-left : tie.Need-enum-known-left
 enum-known-left c = search needs
 
--- src/rule.rt:61:53
 wrapping-add-requires : tie.Need-wrapping-add-requires
 wrapping-add-requires c κs = search needs
 
--- src/rule.rt:62:27
 enum-known-left-2 : tie.Need-enum-known-left-2
 enum-known-left-2 c = search needs
 
--- src/rule.rt:62:33
 offset-requires : tie.Need-offset-requires
 offset-requires c κs = search needs
 
--- src/rule.rt:57:1
 returns : tie.Need-returns
 returns c = rw (c .wrapping-add .ensures, c .before .before .left .given .1)
 
--- src/rule.rt:57:1
 returns-2 : tie.Need-returns-2
 returns-2 c = rw (c .offset .ensures, c .before .before .left2 .given .1)
 
--- src/rule.rt:57:1
 returns-3 : tie.Need-returns-3
 returns-3 c = rw (not-place _ _ _ _ (c .match .keys3))
 

@@ -1,25 +1,19 @@
-use Rattle.vm.proofs.Values.{not-const}
-use native.Mathlib.Omega.{arith}
+-- `vm::rule::addis` meets its contract.
+-- Assumes nothing.
 use borrow.Author.Needs.{needs}
+use Rattle.vm.proofs.Values.{not-const}
 use Rattle.vm.proofs.rule.addis.Statement.{statement}
 use Rattle.vm.proofs.rule.addis.Tie as tie
-use Rattle.vm.proofs.rule.addis.Reads as reads
-use Rattle.vm.proofs.rule.addis.Lts as lts
-use Rattle.words.proofs.sum.wrapping_add.Reads as wrapping-add-reads
 
--- src/rule.rt:52:28
 enum-known-left : tie.Need-enum-known-left
 enum-known-left c = search needs
 
--- src/rule.rt:52:53
 wrapping-add-requires : tie.Need-wrapping-add-requires
 wrapping-add-requires c κs = search needs
 
--- src/rule.rt:48:1
 returns : tie.Need-returns
 returns c = rw (c .wrapping-add .ensures, c .before .before .left .given .1)
 
--- src/rule.rt:48:1
 returns-2 : tie.Need-returns-2
 returns-2 c = rw (not-const _ _ _ (c .match .keys2))
 

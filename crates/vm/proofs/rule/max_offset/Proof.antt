@@ -1,29 +1,22 @@
-use Rattle.vm.proofs.Values.{not-range}
-use native.Mathlib.Omega.{arith}
+-- `vm::rule::max_offset` meets its contract.
+-- Assumes nothing.
 use borrow.Author.Needs.{needs}
+use Rattle.vm.proofs.Values.{not-range}
 use Rattle.vm.proofs.rule.max_offset.Statement.{statement}
 use Rattle.vm.proofs.rule.max_offset.Tie as tie
-use Rattle.vm.proofs.rule.max_offset.Reads as reads
-use Rattle.vm.proofs.rule.max_offset.Lts as lts
-use Rattle.vm.proofs.rule.non_zero.Reads as non-zero-reads
 
--- src/rule.rt:158:35
 enum-known-index : tie.Need-enum-known-index
 enum-known-index c = search needs
 
--- src/rule.rt:162:17
 non-zero-requires : tie.Need-non-zero-requires
 non-zero-requires c κs = search needs
 
--- src/rule.rt:154:1
 returns : tie.Need-returns
 returns c = rw (c .non-zero .ensures, c .before .before .before .index .given .1, c .before .if1 .taken)
 
--- src/rule.rt:154:1
 returns-2 : tie.Need-returns-2
 returns-2 c = rw (c .before .before .index .given .1, c .if1 .left)
 
--- src/rule.rt:154:1
 returns-3 : tie.Need-returns-3
 returns-3 c = rw (not-range _ _ _ (c .match .keys2))
 

@@ -1,16 +1,12 @@
+-- `vm::rule::non_zero` meets its contract.
+-- Assumes nothing.
 use borrow.Author.Tests.{eq-eqb, ne-eqb}
-use native.Mathlib.Omega.{arith}
-use borrow.Author.Needs.{needs}
 use Rattle.vm.proofs.rule.non_zero.Statement.{statement}
 use Rattle.vm.proofs.rule.non_zero.Tie as tie
-use Rattle.vm.proofs.rule.non_zero.Reads as reads
-use Rattle.vm.proofs.rule.non_zero.Lts as lts
 
--- src/rule.rt:143:1
 returns : tie.Need-returns
 returns c = rw (eq-eqb _ _ (c .if1 .taken))
 
--- src/rule.rt:143:1
 returns-2 : tie.Need-returns-2
 returns-2 c = rw (ne-eqb _ _ (c .if1 .left))
 

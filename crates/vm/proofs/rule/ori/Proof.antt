@@ -1,20 +1,16 @@
-use Rattle.vm.proofs.Values.{not-const}
-use native.Mathlib.Omega.{arith}
+-- `vm::rule::ori` meets its contract.
+-- Assumes nothing.
 use borrow.Author.Needs.{needs}
+use Rattle.vm.proofs.Values.{not-const}
 use Rattle.vm.proofs.rule.ori.Statement.{statement}
 use Rattle.vm.proofs.rule.ori.Tie as tie
-use Rattle.vm.proofs.rule.ori.Reads as reads
-use Rattle.vm.proofs.rule.ori.Lts as lts
 
--- src/rule.rt:92:28
 enum-known-left : tie.Need-enum-known-left
 enum-known-left c = search needs
 
--- src/rule.rt:88:1
 returns : tie.Need-returns
 returns c = rw (c .before .left .given .1)
 
--- src/rule.rt:88:1
 returns-2 : tie.Need-returns-2
 returns-2 c = rw (not-const _ _ _ (c .match .keys2))
 

@@ -1,25 +1,19 @@
-use Rattle.vm.proofs.Values.{not-const}
-use native.Mathlib.Omega.{arith}
+-- `vm::rule::rlwnm` meets its contract.
+-- Assumes nothing.
 use borrow.Author.Needs.{needs}
+use Rattle.vm.proofs.Values.{not-const}
 use Rattle.vm.proofs.rule.rlwnm.Statement.{statement}
 use Rattle.vm.proofs.rule.rlwnm.Tie as tie
-use Rattle.vm.proofs.rule.rlwnm.Reads as reads
-use Rattle.vm.proofs.rule.rlwnm.Lts as lts
-use Rattle.vm.proofs.rule.rotate.Reads as rotate-reads
 
--- src/rule.rt:137:28
 enum-known-amount : tie.Need-enum-known-amount
 enum-known-amount c = search needs
 
--- src/rule.rt:137:38
 rotate-requires : tie.Need-rotate-requires
 rotate-requires c κs = search needs
 
--- src/rule.rt:133:1
 returns : tie.Need-returns
 returns c = rw (c .rotate .ensures, c .before .before .amount .given .1)
 
--- src/rule.rt:133:1
 returns-2 : tie.Need-returns-2
 returns-2 c = rw (not-const _ _ _ (c .match .keys2))
 

@@ -1,52 +1,40 @@
+-- `vm::rule::rotate` meets its contract.
+-- Assumes nothing.
+use borrow.Author.Needs.{needs}
 use Rattle.vm.specs.Rules.{rotateOf}
 use Rattle.vm.proofs.Values.{neither}
-use native.Mathlib.Omega.{arith}
-use borrow.Author.Needs.{needs}
 use Rattle.vm.proofs.rule.rotate.Statement.{statement}
 use Rattle.vm.proofs.rule.rotate.Tie as tie
-use Rattle.vm.proofs.rule.rotate.Reads as reads
-use Rattle.vm.proofs.rule.rotate.Lts as lts
-use Rattle.words.proofs.mask.rotate_left.Reads as rotate-left-reads
 
--- src/rule.rt:114:28
 enum-known-value : tie.Need-enum-known-value
 enum-known-value c = search needs
 
--- src/rule.rt:114:53
 rotate-left-requires : tie.Need-rotate-left-requires
 rotate-left-requires c κs = search needs
 
--- src/rule.rt:115:27
 enum-known-value-2 : tie.Need-enum-known-value-2
 enum-known-value-2 c = search needs
 
--- src/rule.rt:116:22
 rotate-left-requires-2 : tie.Need-rotate-left-requires-2
 rotate-left-requires-2 c κs = search needs
 
--- src/rule.rt:117:22
 rotate-left-requires-3 : tie.Need-rotate-left-requires-3
 rotate-left-requires-3 c κs = search needs
 
--- src/rule.rt:121:23
 rotate-left-requires-4 : tie.Need-rotate-left-requires-4
 rotate-left-requires-4 c κs = search needs
 
--- src/rule.rt:127:19
 rotate-left-requires-5 : tie.Need-rotate-left-requires-5
 rotate-left-requires-5 c κs = search needs
 
--- src/rule.rt:110:1
 returns : tie.Need-returns
 unfolding rotateOf
 returns c = rw (c .rotate-left .ensures, c .before .before .value .given .1)
 
--- src/rule.rt:110:1
 returns-2 : tie.Need-returns-2
 unfolding rotateOf
 returns-2 c = rw (c .rotate-left4 .ensures, c .before .rotate-left3 .ensures, c .before .before .rotate-left2 .ensures, c .before .before .before .before .value2 .given .1)
 
--- src/rule.rt:110:1
 returns-3 : tie.Need-returns-3
 unfolding rotateOf
 returns-3 c = rw (c .rotate-left5 .ensures, neither _ _ _ _ (c .before .match .keys3))

@@ -1,32 +1,25 @@
+-- `vm::rule::size` meets its contract.
+-- Assumes nothing.
 use borrow.Author.Tests.{lt-ltb, le-ltb}
-use native.Mathlib.Omega.{arith}
 use borrow.Author.Needs.{needs}
 use Rattle.vm.proofs.rule.size.Statement.{statement}
 use Rattle.vm.proofs.rule.size.Tie as tie
-use Rattle.vm.proofs.rule.size.Reads as reads
-use Rattle.vm.proofs.rule.size.Lts as lts
 
--- src/rule.rt:191:26
 enum-known-max-offset : tie.Need-enum-known-max-offset
 enum-known-max-offset c = search needs
 
--- src/rule.rt:193:34
 add-t6 : tie.Need-add-t6
 add-t6 c = search needs
 
--- src/rule.rt:198:31
 enum-told : tie.Need-enum-told
 enum-told c = search needs
 
--- src/rule.rt:187:1
 returns : tie.Need-returns
 returns c = rw (c .before .before .max-offset .given .1, lt-ltb _ _ (c .if1 .taken))
 
--- src/rule.rt:187:1
 returns-2 : tie.Need-returns-2
 returns-2 c = rw (c .before .before .max-offset .given .1, le-ltb _ _ (c .if1 .left))
 
--- src/rule.rt:187:1
 returns-3 : tie.Need-returns-3
 returns-3 c = search needs
 

@@ -1,38 +1,29 @@
-use Rattle.vm.proofs.Values.{not-const}
+-- `vm::splits::eq` meets its contract.
+-- Assumes nothing.
 use borrow.Author.Tests.{eq-eqb, ne-eqb}
-use native.Mathlib.Omega.{arith}
 use borrow.Author.Needs.{needs}
+use Rattle.vm.proofs.Values.{not-const}
 use Rattle.vm.proofs.splits.eq.Statement.{statement}
 use Rattle.vm.proofs.splits.eq.Tie as tie
-use Rattle.vm.proofs.splits.eq.Reads as reads
-use Rattle.vm.proofs.splits.eq.Lts as lts
-use Rattle.vm.proofs.splits.both.Reads as both-reads
 
--- src/splits.rt:111:28
 enum-known-right : tie.Need-enum-known-right
 enum-known-right c = search needs
 
--- src/splits.rt:112:32
 enum-known-left : tie.Need-enum-known-left
 enum-known-left c = search needs
 
--- src/splits.rt:130:14
 both-requires : tie.Need-both-requires
 both-requires c κs = search needs
 
--- src/splits.rt:107:1
 returns : tie.Need-returns
 returns c = rw (c .before .before .before .before .before .right .given .1, c .before .before .left .given .1, eq-eqb _ _ (c .if1 .taken))
 
--- src/splits.rt:107:1
 returns-2 : tie.Need-returns-2
 returns-2 c = rw (c .before .before .before .before .before .right .given .1, c .before .before .left .given .1, ne-eqb _ _ (c .if1 .left))
 
--- src/splits.rt:107:1
 returns-3 : tie.Need-returns-3
 returns-3 c = rw (c .before .before .right .given .1, not-const _ _ _ (c .match2 .keys2))
 
--- src/splits.rt:107:1
 returns-4 : tie.Need-returns-4
 returns-4 c = rw (c .both .ensures, not-const _ _ _ (c .before .match .keys2))
 

@@ -1,48 +1,35 @@
-use Rattle.vm.specs.Splits.{splitOf}
+-- `vm::splits::split_values_by_crb` meets its contract.
+-- Assumes nothing.
 use borrow.Author.Tests.{eq-eqb, ne-eqb}
-use native.Mathlib.Omega.{arith}
 use borrow.Author.Needs.{needs}
+use Rattle.vm.specs.Splits.{splitOf}
 use Rattle.vm.proofs.splits.split_values_by_crb.Statement.{statement}
 use Rattle.vm.proofs.splits.split_values_by_crb.Tie as tie
-use Rattle.vm.proofs.splits.split_values_by_crb.Reads as reads
-use Rattle.vm.proofs.splits.split_values_by_crb.Lts as lts
-use Rattle.vm.proofs.splits.both.Reads as both-reads
-use Rattle.vm.proofs.splits.eq.Reads as eq-reads
-use Rattle.vm.proofs.splits.gt.Reads as gt-reads
-use Rattle.vm.proofs.splits.lt.Reads as lt-reads
 
--- src/splits.rt:141:14
 lt-requires : tie.Need-lt-requires
 lt-requires c κs = search needs
 
--- src/splits.rt:142:14
 gt-requires : tie.Need-gt-requires
 gt-requires c κs = search needs
 
--- src/splits.rt:143:14
 eq-requires : tie.Need-eq-requires
 eq-requires c κs = search needs
 
--- src/splits.rt:144:14
 both-requires : tie.Need-both-requires
 both-requires c κs = search needs
 
--- src/splits.rt:135:1
 returns : tie.Need-returns
 unfolding splitOf
 returns c = rw (c .lt .ensures, eq-eqb _ _ (c .before .match .keys1))
 
--- src/splits.rt:135:1
 returns-2 : tie.Need-returns-2
 unfolding splitOf
 returns-2 c = rw (c .gt .ensures, c .before .match .keys2)
 
--- src/splits.rt:135:1
 returns-3 : tie.Need-returns-3
 unfolding splitOf
 returns-3 c = rw (c .eq .ensures, c .before .match .keys3)
 
--- src/splits.rt:135:1
 returns-4 : tie.Need-returns-4
 unfolding splitOf
 returns-4 c = rw (c .both .ensures, ne-eqb _ _ (c .before .match .rest .0 .0 .1), ne-eqb _ _ (c .before .match .rest .0 .1), ne-eqb _ _ (c .before .match .rest .1))

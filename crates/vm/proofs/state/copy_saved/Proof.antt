@@ -1,16 +1,16 @@
-use Rattle.vm.proofs.Lists.{copied, copied-none, copied-suc, copied-all}
-use Rattle.vm.specs.Registers.{withGprs, blank}
-use Rattle.vm.proofs.Shape.{gprs}
-use lib.ListN.{length}
-use native.Mathlib.Numerals.{add-one}
-use Prim.Native.Nat.{_<_, _≤_, _-_}
+-- `vm::state::copy_saved` meets its contract. The registers from 14 up to the place of the loop are copied.
+-- Assumes nothing.
 use mathlib.Core.Path.{_≡_, refl, ap, sym, _∙_}
+use Prim.Native.Nat.{_<_, _≤_, _-_}
+use native.Mathlib.Numerals.{add-one}
 use native.Mathlib.Omega.{arith}
 use borrow.Author.Needs.{needs}
+use lib.ListN.{length}
+use Rattle.vm.specs.Registers.{withGprs, blank}
+use Rattle.vm.proofs.Lists.{copied, copied-none, copied-suc, copied-all}
+use Rattle.vm.proofs.Shape.{gprs}
 use Rattle.vm.proofs.state.copy_saved.Statement.{statement}
 use Rattle.vm.proofs.state.copy_saved.Tie as tie
-use Rattle.vm.proofs.state.copy_saved.Reads as reads
-use Rattle.vm.proofs.state.copy_saved.Lts as lts
 
 abbrev Inv-loop : tie.InvT-loop
 Inv-loop s u₀ i₀ u i = (u ≡ withGprs u₀ (copied 14 i (u₀ .gpr) (s .gpr))) × (length (u₀ .gpr) ≡ 32) × (length (s .gpr) ≡ 32) × (length (u .gpr) ≡ 32) × (i ≤ 32) × (14 ≤ i)
@@ -18,38 +18,30 @@ Inv-loop s u₀ i₀ u i = (u ≡ withGprs u₀ (copied 14 i (u₀ .gpr) (s .gpr
 abbrev μ-loop : tie.MeasureT-loop
 μ-loop s u₀ i₀ u i = 32 - i
 
--- src/state.rt:83:5
 loop-holds : tie.Need-loop-holds Inv-loop μ-loop
 loop-holds c =
     let l : length (c .args .t .gpr) ≡ 32 = gprs (c .args .t) (c .good .0 .1 .1 .0 .1 .0 .1) in
     let m : length (c .args .t2 .gpr) ≡ 32 = gprs (c .args .t2) (c .good .1 .0 .1 .1 .0 .1 .0 .1) in
     (ap (withGprs (c .args .t)) (sym (copied-none 14 (c .args .t .gpr) (c .args .t2 .gpr))), l, m, l, search needs, search needs)
 
--- src/state.rt:84:20
 mul-u : tie.Need-mul-u Inv-loop μ-loop
 mul-u c = search needs
 
--- src/state.rt:84:20
 element-copy-out-u : tie.Need-element-copy-out-u Inv-loop μ-loop
 element-copy-out-u c = search needs
 
--- src/state.rt:84:9
 mul-t11 : tie.Need-mul-t11 Inv-loop μ-loop
 mul-t11 c = search needs
 
--- src/state.rt:84:9
 element-set-from-u : tie.Need-element-set-from-u Inv-loop μ-loop
 element-set-from-u c = search needs
 
--- src/state.rt:85:13
 add-i : tie.Need-add-i Inv-loop μ-loop
 add-i c = search needs
 
--- src/state.rt:83:5
 loop-less : tie.Need-loop-less Inv-loop μ-loop
 loop-less c = search needs
 
--- src/state.rt:83:5
 loop-again : tie.Need-loop-again Inv-loop μ-loop
 loop-again c =
     let p = c .before .before .before .args in
@@ -65,7 +57,6 @@ loop-again c =
       search needs,
     )
 
--- src/state.rt:78:1
 returns : tie.Need-returns Inv-loop μ-loop
 returns c =
     let p = c .before .before .args in

@@ -1,24 +1,18 @@
-use native.Mathlib.Omega.{arith}
+-- `vm::state::keep_value` meets its contract.
+-- Assumes nothing.
 use borrow.Author.Needs.{needs}
 use Rattle.vm.proofs.state.keep_value.Statement.{statement}
 use Rattle.vm.proofs.state.keep_value.Tie as tie
-use Rattle.vm.proofs.state.keep_value.Reads as reads
-use Rattle.vm.proofs.state.keep_value.Lts as lts
-use Rattle.vm.proofs.register.set_direct.Reads as set-direct-reads
 
--- src/state.rt:44:16
 set-direct-requires : tie.Need-set-direct-requires
 set-direct-requires c κs = search needs
 
--- src/state.rt:44:5
 mul-t7 : tie.Need-mul-t7
 mul-t7 c = search needs
 
--- src/state.rt:44:5
 element-set-from-u : tie.Need-element-set-from-u
 element-set-from-u c = search needs
 
--- src/state.rt:38:1
 returns : tie.Need-returns
 returns c = rw (c .set-direct .ensures)
 

@@ -1,16 +1,12 @@
-use native.Mathlib.Omega.{arith}
+-- `vm::state::new` meets its contract.
+-- Assumes nothing.
 use borrow.Author.Needs.{needs}
 use Rattle.vm.proofs.state.new.Statement.{statement}
 use Rattle.vm.proofs.state.new.Tie as tie
-use Rattle.vm.proofs.state.new.Reads as reads
-use Rattle.vm.proofs.state.new.Lts as lts
-use Rattle.vm.proofs.register.set_direct.Reads as set-direct-reads
 
--- src/state.rt:20:9
 set-direct-requires : tie.Need-set-direct-requires
 set-direct-requires c κs = search needs
 
--- src/state.rt:17:1
 returns : tie.Need-returns
 returns c = rw (c .set-direct .ensures)
 

@@ -1,30 +1,23 @@
-use Rattle.vm.proofs.Values.{not-mark}
+-- `vm::state::result_known` meets its contract.
+-- Assumes nothing.
 use borrow.Author.Tests.{eq-eqb, ne-eqb}
-use native.Mathlib.Omega.{arith}
 use borrow.Author.Needs.{needs}
+use Rattle.vm.proofs.Values.{not-mark}
 use Rattle.vm.proofs.state.result_known.Statement.{statement}
 use Rattle.vm.proofs.state.result_known.Tie as tie
-use Rattle.vm.proofs.state.result_known.Reads as reads
-use Rattle.vm.proofs.state.result_known.Lts as lts
-use Rattle.vm.proofs.register.with_value.Reads as with-value-reads
 
--- src/state.rt:105:36
 enum-known-w : tie.Need-enum-known-w
 enum-known-w c = search needs
 
--- src/state.rt:107:17
 with-value-requires : tie.Need-with-value-requires
 with-value-requires c κs = search needs
 
--- src/state.rt:100:1
 returns : tie.Need-returns
 returns c = rw (c .with-value .ensures, c .before .before .before .w .given .1, eq-eqb _ _ (c .before .if1 .taken))
 
--- src/state.rt:100:1
 returns-2 : tie.Need-returns-2
 returns-2 c = rw (c .before .before .w .given .1, ne-eqb _ _ (c .if1 .left))
 
--- src/state.rt:100:1
 returns-3 : tie.Need-returns-3
 returns-3 c = rw (not-mark _ _ _ (c .match .keys2))
 

@@ -1,18 +1,17 @@
-use Rattle.vm.proofs.Lists.{mapTo, mapTo-suc, mapTo-all}
-use Rattle.vm.specs.States.{resultOf}
-use Rattle.vm.specs.Registers.{withGprs, blank}
-use Rattle.vm.proofs.Shape.{gprs}
-use lib.ListN.{length}
-use native.Mathlib.Numerals.{add-one}
-use Prim.Native.Nat.{_<_, _≤_, _-_}
+-- `vm::state::set_comparison_result` meets its contract. The registers below the place of the loop are done.
+-- Assumes nothing.
 use mathlib.Core.Path.{_≡_, refl, ap, sym, _∙_}
+use Prim.Native.Nat.{_<_, _≤_, _-_}
+use native.Mathlib.Numerals.{add-one}
 use native.Mathlib.Omega.{arith}
 use borrow.Author.Needs.{needs}
+use lib.ListN.{length}
+use Rattle.vm.specs.States.{resultOf}
+use Rattle.vm.specs.Registers.{withGprs, blank}
+use Rattle.vm.proofs.Lists.{mapTo, mapTo-suc, mapTo-all}
+use Rattle.vm.proofs.Shape.{gprs}
 use Rattle.vm.proofs.state.set_comparison_result.Statement.{statement}
 use Rattle.vm.proofs.state.set_comparison_result.Tie as tie
-use Rattle.vm.proofs.state.set_comparison_result.Reads as reads
-use Rattle.vm.proofs.state.set_comparison_result.Lts as lts
-use Rattle.vm.proofs.state.result_known.Reads as result-known-reads
 
 abbrev Inv-loop : tie.InvT-loop
 Inv-loop value crf t₀ i₀ t i = (t ≡ withGprs t₀ (mapTo (resultOf value crf) i (t₀ .gpr))) × (length (t₀ .gpr) ≡ 32) × (length (t .gpr) ≡ 32) × (i ≤ 32)
@@ -20,39 +19,30 @@ Inv-loop value crf t₀ i₀ t i = (t ≡ withGprs t₀ (mapTo (resultOf value c
 abbrev μ-loop : tie.MeasureT-loop
 μ-loop value crf t₀ i₀ t i = 32 - i
 
--- src/state.rt:122:5
 loop-holds : tie.Need-loop-holds Inv-loop μ-loop
 loop-holds c = let l : length (c .args .s .gpr) ≡ 32 = gprs (c .args .s) (c .good .0 .1 .1 .0 .1 .0 .1) in (refl, l, l, search needs)
 
--- src/state.rt:123:17
 mul-g : tie.Need-mul-g Inv-loop μ-loop
 mul-g c = search needs
 
--- src/state.rt:123:17
 element-copy-out-g : tie.Need-element-copy-out-g Inv-loop μ-loop
 element-copy-out-g c = search needs
 
--- src/state.rt:124:20
 result-known-requires : tie.Need-result-known-requires Inv-loop μ-loop
 result-known-requires c κs = search needs
 
--- src/state.rt:124:9
 mul-t8 : tie.Need-mul-t8 Inv-loop μ-loop
 mul-t8 c = search needs
 
--- src/state.rt:124:9
 element-set-from-t : tie.Need-element-set-from-t Inv-loop μ-loop
 element-set-from-t c = search needs
 
--- src/state.rt:125:13
 add-i : tie.Need-add-i Inv-loop μ-loop
 add-i c = search needs
 
--- src/state.rt:122:5
 loop-less : tie.Need-loop-less Inv-loop μ-loop
 loop-less c = search needs
 
--- src/state.rt:122:5
 loop-again : tie.Need-loop-again Inv-loop μ-loop
 loop-again c =
     let p = c .before .before .before .before .args in
@@ -64,7 +54,6 @@ loop-again c =
       search needs,
     )
 
--- src/state.rt:117:1
 returns : tie.Need-returns Inv-loop μ-loop
 returns c =
     let p = c .before .before .args in
