@@ -1,7 +1,7 @@
 -- A table's outcome depends on the data only through the words examined, the stopping one included.
 -- Assumes nothing.
 use Prim.Native.Nat.{ℕ, zero, suc, _+_, _-_, _*_, _/_, _%_, _≤_, _<_}
-use mathlib.Core.Path.{_≡_, refl, sym, ap, _∙_}
+use mathlib.Core.Path.{_≡_, refl, ap}
 use mathlib.Core.Bool.{Bool, true, false}
 use mathlib.Core.List.{List, [], _∷_}
 use native.Mathlib.Omega.{arith}
@@ -20,7 +20,7 @@ use Rattle.jump_tables.specs.declared.Reading.the-variants.{Stopped, Ski
 use Rattle.jump_tables.specs.declared.TableAnswer.{TableAnswer}
 use Rattle.jump_tables.specs.declared.TableAnswer.the-variants as answer
 use Rattle.jump_tables.specs.Readings.{sizedReading, guessedReading, readingOf}
-use Rattle.jump_tables.specs.Tables.{onStop, passed, verdictOf, verdict, Outcome, onVerdict, fitted, entriesOf, readOff, wordPlace, wordReading, wordsPassed, clampedSize, sizeOf, isTable, sizedTable, guessedTable, tableIn}
+use Rattle.jump_tables.specs.Tables.{onStop, passed, verdict, Outcome, onVerdict, fitted, entriesOf, readOff, wordPlace, wordReading, wordsPassed, clampedSize, sizeOf, isTable, sizedTable, guessedTable, tableIn}
 use Rattle.jump_tables.specs.Examined.{onGood, examined, wordsExamined}
 
 -- readings with one outcome: the same verdict, and all the same where none is bad
@@ -84,3 +84,24 @@ module _ (ws bs cs : List ℕ) (p : SectionAddress) (n : ℕ) (start : SectionAd
       → (o : Outcome) → pick b (readOff (wordsPassed ws bs Sized p m) room) o ≡ pick b (readOff (wordsPassed ws cs Sized p m) room) o
   size-case true m h o = agree Sized m h
   size-case false m h o = refl
+
+  how-case : (b c : Bool) (m k : ℕ) (o : Outcome)
+      → ((j : ℕ) → j < pick b (examined (wordReading ws bs (Guessed start e) p) m 0) (pick c (examined (wordReading ws bs Sized p) k 0) 0) → wordAt ws bs (wordPlace p j) ≡ wordAt ws cs (wordPlace p j))
+      → pick b (readOff (wordsPassed ws bs (Guessed start e) p m) room) (pick c (readOff (wordsPassed ws bs Sized p k) room) o)
+      ≡ pick b (readOff (wordsPassed ws cs (Guessed start e) p m) room) (pick c (readOff (wordsPassed ws cs Sized p k) room) o)
+  how-case true c m k o h = agree (Guessed start e) m h
+  how-case false c m k o h = size-case c k h o
+
+  place-case : (t b c : Bool) (m k : ℕ) (o empty : Outcome)
+      → ((j : ℕ) → j < pick t (pick b (examined (wordReading ws bs (Guessed start e) p) m 0) (pick c (examined (wordReading ws bs Sized p) k 0) 0)) 0 → wordAt ws bs (wordPlace p j) ≡ wordAt ws cs (wordPlace p j))
+      → pick t (pick b (readOff (wordsPassed ws bs (Guessed start e) p m) room) (pick c (readOff (wordsPassed ws bs Sized p k) room) o)) empty
+      ≡ pick t (pick b (readOff (wordsPassed ws cs (Guessed start e) p m) room) (pick c (readOff (wordsPassed ws cs Sized p k) room) o)) empty
+  place-case true b c m k o empty h = how-case b c m k o h
+  place-case false b c m k o empty h = refl
+
+  pub table-by-examined : ((k : ℕ) → k < wordsExamined ws bs p n start e → wordAt ws bs (wordPlace p k) ≡ wordAt ws cs (wordPlace p k))
+      → tableIn ws bs p n start e room ≡ tableIn ws cs p n start e room
+  unfolding wordsExamined tableIn guessedTable sizedTable
+  table-by-examined h =
+      place-case (isTable ws p) (eqb (sizeOf ws p n) 0) (eqb (clampedSize ws p (sizeOf ws p n) % 4) 0)
+      ((endOf (sectionAt ws (p .section)) - p .address) / 4 + 1) (clampedSize ws p (sizeOf ws p n) / 4) _ _ h

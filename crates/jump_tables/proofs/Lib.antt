@@ -9,3 +9,5 @@ pub mod Gathering
 pub mod Outcomes
 pub mod EntrySet
 pub mod Examined
+pub mod Corners
+pub mod Cases

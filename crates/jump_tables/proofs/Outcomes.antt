@@ -1,18 +1,36 @@
 -- What a table's answer is, case by case, in document 01's order: outside, ragged, sized, guessed.
 -- Assumes nothing.
-use Prim.Native.Nat.{ℕ, _+_, _-_, _*_, _/_, _%_}
-use mathlib.Core.Path.{_≡_, refl, sym, ap, _∙_}
+use Prim.Native.Nat.{ℕ, _+_, _-_, _/_, _%_}
+use mathlib.Core.Path.{_≡_, refl}
 use mathlib.Core.Bool.{Bool, true, false}
 use mathlib.Core.List.{List}
+use native.Mathlib.Omega.{arith}
 use borrow.Author.Tests.{eq-eqb, ne-eqb}
 use lib.ListN.{length, replicate}
+use Rattle.words.specs.Choice.{pick}
 use Rattle.places.specs.declared.SectionAddress.{SectionAddress}
 use Rattle.places.specs.declared.MaybeAddress.{MaybeAddress}
 use Rattle.image.specs.Layout.{sectionAt}
-use Rattle.image.specs.Rules.{endOf, sound}
+use Rattle.image.specs.Rules.{endOf, sound, judged}
+use Rattle.image.specs.declared.Judged.the-variants.{Sound, Broken}
 use Rattle.jump_tables.specs.declared.How.the-variants.{Sized, Guessed}
 use Rattle.jump_tables.specs.declared.TableAnswer.the-variants as answer
-use Rattle.jump_tables.specs.Tables.{Outcome, refusedTable, refused, readOff, wordsPassed, clampedSize, sizeOf, isTable, sizedTable, guessedTable, tableIn, tableOf}
+use Rattle.jump_tables.specs.Tables.{refusedTable, refused, readOff, wordsPassed, clampedSize, sizeOf, isTable, sizedTable, guessedTable, tableIn, tableOf}
+
+-- what the judge of images answers
+sound-case : (b : Bool) → pick b Sound Broken ≡ Sound → b ≡ true
+sound-case true e = refl
+sound-case false e = let z : _≡_ {A = ℕ} 0 1 = cc in absurd (omega arith)
+
+broken-case : (b : Bool) → pick b Sound Broken ≡ Broken → b ≡ false
+broken-case true e = let z : _≡_ {A = ℕ} 0 1 = cc in absurd (omega arith)
+broken-case false e = refl
+
+pub judged-sound : (ws : List ℕ) (n : ℕ) → judged ws n ≡ Sound → sound ws n ≡ true
+judged-sound ws n e = sound-case (sound ws n) e
+
+pub judged-broken : (ws : List ℕ) (n : ℕ) → judged ws n ≡ Broken → sound ws n ≡ false
+judged-broken ws n e = broken-case (sound ws n) e
 
 -- a broken image: 1, and the buffer is left as it was
 pub broken-is-1 : (ws bs : List ℕ) (p : SectionAddress) (n : ℕ) (start : SectionAddress) (e : MaybeAddress) (buffer : List ℕ) → sound ws (length bs) ≡ false

@@ -1,7 +1,7 @@
 -- A sized table passes every word of its clamped size: none of them stops, so nothing is cut silently.
 -- Assumes nothing.
-use Prim.Native.Nat.{ℕ, zero, suc, _+_, _-_, _*_, _/_, _^_, min, _≤_, _<_}
-use mathlib.Core.Path.{_≡_, refl, sym, ap, _∙_}
+use Prim.Native.Nat.{ℕ, zero, suc, _+_, _-_, _*_, _/_, _^_, _≤_, _<_}
+use mathlib.Core.Path.{_≡_, refl, ap}
 use mathlib.Core.Bool.{Bool, true, false}
 use mathlib.Core.List.{List, [], _∷_}
 use native.Mathlib.Omega.{arith}
@@ -13,8 +13,7 @@ use Rattle.places.specs.declared.SectionAddress.{SectionAddress}
 use Rattle.places.specs.declared.MaybeAddress.{MaybeAddress}
 use Rattle.places.specs.declared.MaybeAddress.the-variants as maybe
 use Rattle.places.specs.declared.RelocationTarget.the-variants.{External, Address}
-use Rattle.image.specs.Layout.{sectionAt}
-use Rattle.image.specs.Rules.{endOf, tablesSound, dataInside}
+use Rattle.image.specs.Rules.{tablesSound, dataInside}
 use Rattle.lookups.specs.declared.Wanted.the-variants.{Absolute}
 use Rattle.lookups.specs.declared.Relocation.{Relocation}
 use Rattle.lookups.specs.declared.Relocation.the-variants.{Nothing, Error, To}
@@ -24,10 +23,9 @@ use Rattle.lookups.specs.Bytes.{dataFrom, wordAt}
 use Rattle.jump_tables.specs.declared.How.the-variants.{Sized}
 use Rattle.jump_tables.specs.declared.Reading.{Reading}
 use Rattle.jump_tables.specs.declared.Reading.the-variants.{Stopped, Skipped, Faulty, Nowhere, Entry}
-use Rattle.jump_tables.specs.declared.TableAnswer.the-variants as answer
 use Rattle.jump_tables.specs.Readings.{onRelocation, onEntry, bareEntry, sizedTarget, sizedWord, sizedReading}
-use Rattle.jump_tables.specs.Tables.{onStop, passed, verdict, wordPlace, wordReading, wordsPassed, Fitting, clampedSize, isTable}
-use Rattle.jump_tables.proofs.TablePlaces.{in-table, word-there}
+use Rattle.jump_tables.specs.Tables.{onStop, passed, wordPlace, wordReading, wordsPassed, Fitting, clampedSize, isTable}
+use Rattle.jump_tables.proofs.TablePlaces.{word-there}
 
 -- a reading that does not stop
 pub data Passes : Reading → Type 0 where

@@ -1,11 +1,11 @@
 -- A place in a Data or ReadOnly section of a sound image, and the words from there to the section's end.
 -- Assumes nothing.
-use Prim.Native.Nat.{ℕ, _+_, _*_, _-_, _≤_, _<_}
-use mathlib.Core.Path.{_≡_, refl, sym, ap, _∙_}
-use mathlib.Core.Bool.{Bool, true, false, _&&_, _||_, not}
+use Prim.Native.Nat.{ℕ, _+_, _-_, _≤_}
+use mathlib.Core.Path.{_≡_, refl}
+use mathlib.Core.Bool.{Bool, true, false, _&&_, _||_}
 use mathlib.Core.List.{List}
 use native.Mathlib.Omega.{arith}
-use borrow.Author.Tests.{ltb-true, leb-true, eqb-true, lt-ltb, le-leb, ne-eqb}
+use borrow.Author.Tests.{ltb-true, leb-true, eqb-true, lt-ltb, le-leb}
 use lib.ListN.{length, take, drop, length-take, length-drop}
 use lib.Dec.{ltb, leb, eqb}
 use Rattle.words.specs.Bytes.{be32}
@@ -13,7 +13,7 @@ use Rattle.places.specs.declared.SectionAddress.{SectionAddress}
 use Rattle.search.proofs.EveryLaws.{and-left, and-right}
 use Rattle.image.specs.Numbers.{dataKind, readOnlyKind, bssKind}
 use Rattle.image.specs.Layout.{sections, sectionAt}
-use Rattle.image.specs.Rules.{holds, endOf, tablesSound, dataInside}
+use Rattle.image.specs.Rules.{endOf, tablesSound, dataInside}
 use Rattle.lookups.specs.declared.MaybeWord.the-variants.{Read}
 use Rattle.lookups.specs.Bytes.{hasData, dataFrom, offsetIn, wordAt}
 use Rattle.image.proofs.SoundTables.{sound-tables}

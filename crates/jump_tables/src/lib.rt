@@ -61,7 +61,15 @@ pub struct Table {
 // after them, their count and the bytes passed. A size of 0 is none; the known size of an object symbol there beats it.
 // Broken (1) leaves the buffer as it was. Then, with the buffer all zeros: Ragged (8) where the size, cut to the section,
 // is no multiple of 4; at the first bad entry RelocationError (7) or PointsNowhere (9); Full (10) for more entries than room.
-pub fn uniq_jump_table_entries(im: &[u32], bytes: &[u8], at: SectionAddress, size: u32, start: SectionAddress, end: MaybeAddress, entries: &mut [u64]) -> Table
+pub fn uniq_jump_table_entries(
+    im: &[u32],
+    bytes: &[u8],
+    at: SectionAddress,
+    size: u32,
+    start: SectionAddress,
+    end: MaybeAddress,
+    entries: &mut [u64],
+) -> Table
     ensures { λ r. ⌜ r ≡ tableOf (now (im .entry)) (now (bytes .entry)) at size start end (now (entries .entry)) .table ⌝ }
     ensures buffer { λ r. ⌜ now (entries .exit) ≡ tableOf (now (im .entry)) (now (bytes .entry)) at size start end (now (entries .entry)) .keys ⌝ }
 {

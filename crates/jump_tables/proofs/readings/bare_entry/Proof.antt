@@ -1,3 +1,5 @@
+-- A bare word names a place in an Executable alone. A section found is one of 64, so its index fits.
+-- Assumes nothing.
 use borrow.Author.Tests.{eq-eqb, ne-eqb}
 use mathlib.Core.Path.{sym, _∙_}
 use Rattle.search.proofs.FirstMatch.{first-below}
@@ -8,42 +10,31 @@ use native.Mathlib.Omega.{arith}
 use borrow.Author.Needs.{needs}
 use Rattle.jump_tables.proofs.readings.bare_entry.Statement.{statement}
 use Rattle.jump_tables.proofs.readings.bare_entry.Tie as tie
-use Rattle.jump_tables.proofs.readings.bare_entry.Reads as reads
-use Rattle.jump_tables.proofs.readings.bare_entry.Lts as lts
-use Rattle.lookups.proofs.at_address.Reads as at-address-reads
 
--- src/readings.rt:116:8
 shared-slice-read-if1 : tie.Need-shared-slice-read-if1
 shared-slice-read-if1 c = let s = sound-tables (c .before .before .args .im .now) (c .before .before .pre) in omega arith
 
--- src/readings.rt:117:9
 returns : tie.Need-returns
 returns c = rw (ne-eqb _ _ (c .if1 .taken))
 
--- src/readings.rt:119:11
 at-address-requires : tie.Need-at-address-requires
 at-address-requires c κs = search needs
 
--- src/readings.rt:120:19
 enum-known-i : tie.Need-enum-known-i
 enum-known-i c = search needs
 
--- src/readings.rt:121:22
 cast-t9 : tie.Need-cast-t9
-cast-t9 c = 
+cast-t9 c =
     let s = sound-tables (c .before .before .before .before .before .before .before .args .im .now) (c .before .before .before .before .before .before .before .pre) in
     let b = first-below (held (c .before .before .before .before .before .before .before .args .im .now) (c .before .before .before .before .before .before .before .args .v)) (sections (c .before .before .before .before .before .before .before .args .im .now)) (c .before .i .given .0 .0) (sym (c .before .before .before .at-address .ensures) ∙ c .before .i .given .1) in
     record { fits = omega arith }
 
--- src/readings.rt:124:27
 enum-told : tie.Need-enum-told
 enum-told c = search needs
 
--- src/readings.rt:112:1
 returns-2 : tie.Need-returns-2
 returns-2 c = rw (eq-eqb _ _ (c .before .before .before .before .if1 .left), sym (c .before .before .before .at-address .ensures) ∙ c .before .i .given .1)
 
--- src/readings.rt:112:1
 returns-3 : tie.Need-returns-3
 returns-3 c = rw (eq-eqb _ _ (c .before .before .before .if1 .left), sym (c .before .before .at-address .ensures) ∙ c .enum-told .given .1)
 

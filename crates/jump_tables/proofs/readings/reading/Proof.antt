@@ -1,33 +1,24 @@
-use native.Mathlib.Omega.{arith}
+-- Sized or guessed.
+-- Assumes nothing.
 use borrow.Author.Needs.{needs}
 use Rattle.jump_tables.proofs.readings.reading.Statement.{statement}
 use Rattle.jump_tables.proofs.readings.reading.Tie as tie
-use Rattle.jump_tables.proofs.readings.reading.Reads as reads
-use Rattle.jump_tables.proofs.readings.reading.Lts as lts
-use Rattle.jump_tables.proofs.readings.guessed_reading.Reads as guessed-reading-reads
-use Rattle.jump_tables.proofs.readings.sized_reading.Reads as sized-reading-reads
 
--- src/readings.rt:59:23
 enum-told : tie.Need-enum-told
 enum-told c = search needs
 
--- src/readings.rt:59:23
 sized-reading-requires : tie.Need-sized-reading-requires
 sized-reading-requires c κs = search needs
 
--- src/readings.rt:60:22
 enum-known-how : tie.Need-enum-known-how
 enum-known-how c = search needs
 
--- src/readings.rt:60:37
 guessed-reading-requires : tie.Need-guessed-reading-requires
 guessed-reading-requires c κs = search needs
 
--- src/readings.rt:54:1
 returns : tie.Need-returns
 returns c = rw (c .sized-reading .ensures, c .before .enum-told .given .1)
 
--- src/readings.rt:54:1
 returns-2 : tie.Need-returns-2
 returns-2 c = rw (c .guessed-reading .ensures, c .before .before .how .given .1)
 

@@ -1,55 +1,40 @@
+-- The relocation is looked up first, then the word.
+-- Assumes nothing.
 use mathlib.Core.Path.{sym, _∙_}
 use Rattle.jump_tables.specs.Readings.{sizedReading}
-use native.Mathlib.Omega.{arith}
 use borrow.Author.Needs.{needs}
 use Rattle.jump_tables.proofs.readings.sized_reading.Statement.{statement}
 use Rattle.jump_tables.proofs.readings.sized_reading.Tie as tie
-use Rattle.jump_tables.proofs.readings.sized_reading.Reads as reads
-use Rattle.jump_tables.proofs.readings.sized_reading.Lts as lts
-use Rattle.jump_tables.proofs.readings.sized_target.Reads as sized-target-reads
-use Rattle.jump_tables.proofs.readings.sized_word.Reads as sized-word-reads
-use Rattle.lookups.proofs.read_u32.Reads as read-u32-reads
-use Rattle.lookups.proofs.relocation_target_for.Reads as relocation-target-for-reads
 
--- src/readings.rt:29:11
 relocation-target-for-requires : tie.Need-relocation-target-for-requires
 relocation-target-for-requires c κs = search needs
 
--- src/readings.rt:30:30
 enum-told : tie.Need-enum-told
 enum-told c = search needs
 
--- src/readings.rt:31:24
 enum-known-t : tie.Need-enum-known-t
 enum-known-t c = search needs
 
--- src/readings.rt:31:30
 sized-target-requires : tie.Need-sized-target-requires
 sized-target-requires c κs = search needs
 
--- src/readings.rt:32:47
 enum-told-2 : tie.Need-enum-told-2
 enum-told-2 c = search needs
 
--- src/readings.rt:32:47
 read-u32-requires : tie.Need-read-u32-requires
 read-u32-requires c κs = search needs
 
--- src/readings.rt:32:32
 sized-word-requires : tie.Need-sized-word-requires
 sized-word-requires c κs = search needs
 
--- src/readings.rt:25:1
 returns : tie.Need-returns
 unfolding sizedReading
 returns c = rw (sym (c .before .before .relocation-target-for .ensures) ∙ c .enum-told .given .1)
 
--- src/readings.rt:25:1
 returns-2 : tie.Need-returns-2
 unfolding sizedReading
 returns-2 c = rw (c .sized-target .ensures, sym (c .before .before .before .before .relocation-target-for .ensures) ∙ c .before .before .t .given .1)
 
--- src/readings.rt:25:1
 returns-3 : tie.Need-returns-3
 unfolding sizedReading
 returns-3 c = rw (c .sized-word .ensures, c .before .read-u32 .ensures, sym (c .before .before .before .before .relocation-target-for .ensures) ∙ c .before .before .enum-told2 .given .1)
