@@ -5,3 +5,4 @@ pub mod Decoded
 pub mod Steps
 pub mod Holding
 pub mod Demand3
+pub mod RuledOut

@@ -10,7 +10,7 @@ use Rattle.vm.specs.declared.GprValue.the-variants.{Unknown, Constant, Address,
 use Rattle.vm.specs.Values.{onConst, onPlace, onRange}
 use Rattle.vm.specs.Rules.{offsetOf}
 
-unknown-is-not : (x : ℕ) → Unknown ≡ Constant x → ⊥
+pub unknown-is-not : (x : ℕ) → Unknown ≡ Constant x → ⊥
 unknown-is-not x e = let z : _≡_ {A = ℕ} 0 1 = cc in omega arith
 
 address-is-not : (t : RelocationTarget) (x : ℕ) → Address t ≡ Constant x → ⊥
