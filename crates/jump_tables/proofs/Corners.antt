@@ -29,7 +29,7 @@ use Rattle.jump_tables.specs.declared.Reading.the-variants.{Stopped, Ski
 use Rattle.jump_tables.specs.declared.TableAnswer.the-variants as answer
 use Rattle.jump_tables.specs.Readings.{bareEntry, onEntry, inFunction, sizedReading, guessedReading}
 use Rattle.jump_tables.specs.Tables.{onStop, passed, verdict, entriesOf, Outcome, refused, filled, readOff, wordsPassed, clampedSize, sizeOf, isTable, sizedTable, tableIn}
-use Rattle.jump_tables.proofs.Gathering.{passed-step}
+use Rattle.jump_tables.proofs.Passing.{passed-step}
 use Rattle.jump_tables.proofs.Outcomes.{size-is-read, ragged-sized, whole-sized}
 use Rattle.jump_tables.proofs.SizedWords.{sized-passes-all}
 use Rattle.jump_tables.proofs.TablePlaces.{in-table}

@@ -5,6 +5,7 @@ pub mod TablePlaces
 pub mod FourBytes
 pub mod GuessEnds
 pub mod SizedWords
+pub mod Passing
 pub mod Gathering
 pub mod Outcomes
 pub mod EntrySet

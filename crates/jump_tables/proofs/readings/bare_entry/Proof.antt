@@ -25,8 +25,9 @@ enum-known-i c = search needs
 
 cast-t9 : tie.Need-cast-t9
 cast-t9 c =
-    let s = sound-tables (c .before .before .before .before .before .before .before .args .im .now) (c .before .before .before .before .before .before .before .pre) in
-    let b = first-below (held (c .before .before .before .before .before .before .before .args .im .now) (c .before .before .before .before .before .before .before .args .v)) (sections (c .before .before .before .before .before .before .before .args .im .now)) (c .before .i .given .0 .0) (sym (c .before .before .before .at-address .ensures) ∙ c .before .i .given .1) in
+    let a = c .before .before .before .before .before .before .before .args in
+    let s = sound-tables (a .im .now) (c .before .before .before .before .before .before .before .pre) in
+    let below = first-below (held (a .im .now) (a .v)) (sections (a .im .now)) (c .before .i .given .0 .0) (sym (c .before .before .before .at-address .ensures) ∙ c .before .i .given .1) in
     record { fits = omega arith }
 
 enum-told : tie.Need-enum-told
