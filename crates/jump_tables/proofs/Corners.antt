@@ -18,8 +18,10 @@ use Rattle.image.specs.Numbers.{executableKind}
 use Rattle.image.specs.Layout.{imageKind, sectionAt}
 use Rattle.image.specs.Rules.{endOf, tablesSound, dataInside}
 use Rattle.lookups.specs.declared.Wanted.the-variants.{Absolute}
+use Rattle.lookups.specs.declared.Relocation.{Relocation}
 use Rattle.lookups.specs.declared.Relocation.the-variants.{Nothing, Error, To}
-use Rattle.lookups.specs.declared.MaybeWord.the-variants.{Read}
+use Rattle.lookups.specs.declared.MaybeWord.{MaybeWord}
+use Rattle.lookups.specs.declared.MaybeWord.the-variants.{Missing, Read}
 use Rattle.lookups.specs.Sections.{knownSize}
 use Rattle.lookups.specs.Relocations.{relocationFor}
 use Rattle.lookups.specs.Bytes.{wordAt}
@@ -27,7 +29,7 @@ use Rattle.jump_tables.specs.declared.How.the-variants.{Sized}
 use Rattle.jump_tables.specs.declared.Reading.{Reading}
 use Rattle.jump_tables.specs.declared.Reading.the-variants.{Stopped, Skipped, Faulty, Nowhere, Entry}
 use Rattle.jump_tables.specs.declared.TableAnswer.the-variants as answer
-use Rattle.jump_tables.specs.Readings.{bareEntry, onEntry, inFunction, sizedReading, guessedReading}
+use Rattle.jump_tables.specs.Readings.{onRelocation, bareEntry, onEntry, pastEnd, inFunction, guessedTarget, guessedWord, sizedReading, guessedReading}
 use Rattle.jump_tables.specs.Tables.{onStop, passed, verdict, entriesOf, Outcome, refused, filled, readOff, wordsPassed, clampedSize, sizeOf, isTable, sizedTable, tableIn}
 use Rattle.jump_tables.proofs.Passing.{passed-step}
 use Rattle.jump_tables.proofs.Outcomes.{size-is-read, ragged-sized, whole-sized}
@@ -91,6 +93,38 @@ target-at-end-stops start end = target-past-end-stops start end end (not-before-
 pub target-inside-is-an-entry : (start end t : SectionAddress) → before t start ≡ false → before t end ≡ true
     → (inFunction start (maybe.At end) t ≡ Entry t) × (inFunction start maybe.Nowhere t ≡ Entry t)
 target-inside-is-an-entry start end t b c = (rw (b, c), rw b)
+
+-- a guess answers 7 or stops: 9 is for sized reading only, and no word is skipped
+pub data Guessable : Reading → Type 0 where
+  stopped : Guessable Stopped
+  faulty : Guessable Faulty
+  entry : {t : SectionAddress} → Guessable (Entry t)
+
+bounds-case : (b : Bool) (t : SectionAddress) → Guessable (pick b Stopped (Entry t))
+bounds-case true t = Guessable.stopped
+bounds-case false t = Guessable.entry
+
+guess-in-function : (start : SectionAddress) (e : MaybeAddress) (t : SectionAddress) → Guessable (inFunction start e t)
+guess-in-function start e t = bounds-case (before t start || pastEnd e t) t
+
+place-case : (start : SectionAddress) (e m : MaybeAddress) → Guessable (onEntry m Stopped (inFunction start e))
+place-case start e maybe.Nowhere = Guessable.stopped
+place-case start e (maybe.At t) = guess-in-function start e t
+
+word-case : (ws : List ℕ) (start : SectionAddress) (e : MaybeAddress) (w : MaybeWord) → Guessable (guessedWord ws start e w)
+word-case ws start e Missing = Guessable.stopped
+word-case ws start e (Read v) = place-case start e (bareEntry ws v)
+
+relocation-case : (ws bs : List ℕ) (start : SectionAddress) (e : MaybeAddress) (q : SectionAddress) (r : Relocation)
+    → Guessable (onRelocation r (guessedWord ws start e (wordAt ws bs q)) (guessedTarget start e))
+relocation-case ws bs start e q Nothing = word-case ws start e (wordAt ws bs q)
+relocation-case ws bs start e q Error = Guessable.faulty
+relocation-case ws bs start e q (To External) = Guessable.stopped
+relocation-case ws bs start e q (To (Address t)) = guess-in-function start e t
+
+pub guess-never-nowhere-nor-skipped : (ws bs : List ℕ) (start : SectionAddress) (e : MaybeAddress) (q : SectionAddress) → Guessable (guessedReading ws bs start e q)
+unfolding guessedReading
+guess-never-nowhere-nor-skipped ws bs start e q = relocation-case ws bs start e q (relocationFor ws q Absolute)
 
 -- a known nonzero symbol size beats the found one; a known 0 is passed over
 pub known-size-wins : (ws : List ℕ) (p : SectionAddress) (n : ℕ) → (knownSize ws p ≡ 0 → ⊥) → sizeOf ws p n ≡ knownSize ws p

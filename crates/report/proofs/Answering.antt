@@ -2,27 +2,25 @@
 -- Assumes nothing.
 use mathlib.Core.Path.{_≡_, refl, sym, ap, _∙_}
 use mathlib.Core.Bool.{Bool, true, false}
-use mathlib.Core.List.{List, _++_}
-use Prim.Native.Nat.{ℕ, _+_, _*_, _^_, _≤_, _<_}
+use mathlib.Core.List.{List}
+use Prim.Native.Nat.{ℕ, _^_, _≤_, _<_}
 use native.Mathlib.Omega.{arith}
-use lib.ListN.{length, drop, replicate}
-use lib.Seq.{sets, length-sets}
+use lib.ListN.{length, replicate}
+use lib.Seq.{length-sets}
 use borrow.Author.Tests.{le-leb, lt-leb}
 use Rattle.words.specs.Choice.{pick}
-use Rattle.image.specs.declared.Judged.{Judged}
 use Rattle.image.specs.declared.Judged.the-variants.{Sound, Broken}
 use Rattle.image.specs.Laid as image
 use Rattle.image.specs.Rules.{sound, judged, codeWords}
 use Rattle.image.proofs.SoundTables.{SoundTables, sound-tables, tables-of-sound}
 use Rattle.visited.specs.Bits.{hasRoom}
-use Rattle.report.specs.declared.Place.{Place}
 use Rattle.report.specs.declared.Place.the-variants.{At, Lost}
 use Rattle.report.specs.declared.Wrote.{Wrote}
 use Rattle.report.specs.declared.Wrote.the-variants as wrote
 use Rattle.report.specs.declared.Done.{Done}
 use Rattle.report.specs.declared.Done.the-variants as done
 use Rattle.report.specs.Bytes.{reportOf}
-use Rattle.report.specs.Reading.{onPlace, readReport}
+use Rattle.report.specs.Reading.{readReport}
 use Rattle.report.specs.Marks.{mapOf}
 use Rattle.report.specs.Steps.{Laid}
 use Rattle.report.specs.Answers.{writeAnswer, writeLeaves, readAnswer, readLeaves}

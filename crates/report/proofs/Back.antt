@@ -3,7 +3,7 @@
 use mathlib.Core.Path.{_≡_, refl, sym, ap, _∙_, subst}
 use mathlib.Core.Bool.{Bool, true, false}
 use mathlib.Core.List.{List, [], _∷_, _++_}
-use Prim.Native.Nat.{ℕ, zero, suc, _+_, _-_, _≤_, _<_}
+use Prim.Native.Nat.{ℕ, zero, suc, _+_, _-_, _≤_}
 use native.Mathlib.Omega.{arith}
 use lib.ListN.{length, length-append}
 use lib.Dec.{eqb}
@@ -20,7 +20,7 @@ use Rattle.report.specs.declared.Found.{Found}
 use Rattle.report.specs.declared.Found.the-variants.{Next, NoRun}
 use Rattle.report.specs.Runs.{Run, run, wordsAt}
 use Rattle.report.specs.Bytes.{runBytes, sectionBytes, sectionsBytes, reportBytes}
-use Rattle.report.specs.Reading.{onNumber, onPlace, runAt, Parsed, after, lost, readRuns, readSection, AllParsed, allLost, afterSection, andOn, readSections, headAt, atEnd, whole, readReport}
+use Rattle.report.specs.Reading.{onNumber, runAt, Parsed, after, readRuns, readSection, AllParsed, afterSection, readSections, headAt, atEnd, whole, readReport}
 use Rattle.report.proofs.RunLaws.{no-bytes, run-bytes}
 use Rattle.report.proofs.Laying.{sections-nil, sections-cons}
 use Rattle.report.proofs.ReadLaws.{RunTold, run-told, runs-done, runs-more, runs-lost, section-counted, section-uncounted, sections-done, sections-more, and-on-at, and-on-lost, no-head, head-read}

@@ -2,17 +2,17 @@
 -- Assumes nothing.
 use mathlib.Core.Path.{_≡_, refl, sym, ap, _∙_}
 use mathlib.Core.List.{List, [], _∷_, _++_}
-use Prim.Native.Nat.{ℕ, zero, suc, _+_, _-_, _*_, _^_, _≤_, _<_}
+use Prim.Native.Nat.{ℕ, suc, _+_, _-_, _^_, _≤_, _<_}
 use native.Mathlib.Omega.{arith}
 use lib.ListN.{length, length-append}
 use borrow.Author.Tests.{eq-eqb}
 use Rattle.image.specs.Layout.{sections}
-use Rattle.image.specs.Rules.{wordsBefore, codeWords}
+use Rattle.image.specs.Rules.{codeWords}
 use Rattle.varint.specs.declared.Read.the-variants.{Number}
 use Rattle.varint.specs.Groups.{varint, numberAt}
 use Rattle.varint.proofs.Stands.{Stands, reads}
 use Rattle.report.specs.declared.Place.{Place}
-use Rattle.report.specs.declared.Place.the-variants.{At, Lost}
+use Rattle.report.specs.declared.Place.the-variants.{At}
 use Rattle.report.specs.Runs.{Run, wordsAt}
 use Rattle.report.specs.Bytes.{runBytes, sectionBytes, sectionsBytes, reportBytes}
 use Rattle.report.specs.Reading.{Parsed, after, readRuns, readSection, AllParsed, afterSection, readSections, headAt, whole, readReport}

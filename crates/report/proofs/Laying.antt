@@ -14,7 +14,7 @@ use Rattle.image.proofs.CodeWords.{words-none, words-more}
 use Rattle.varint.specs.Groups.{varint}
 use Rattle.visited.specs.Bits.{visitedAt}
 use Rattle.report.specs.declared.Scan.{Scan}
-use Rattle.report.specs.Runs.{Run, run, runs, runsOf, tab, wordsAt, runsIn}
+use Rattle.report.specs.Runs.{Run, runs, runsOf, tab, wordsAt, runsIn}
 use Rattle.report.specs.Bytes.{runBytes, sectionBytes, sectionsBytes}
 use Rattle.report.specs.Steps.{Laid, Turned, yet, closedBy}
 use Rattle.report.proofs.RunLaws.{tab-end, tab-at, tab-next, tab-length, run-on, gap-on, run-end, last-run, no-run, no-bytes, run-bytes, two-long, section-short, runsAfter, count-step, count-last, closed-small}

@@ -11,17 +11,16 @@ use lib.Dec.{eqb}
 use borrow.Author.Tests.{eqb-true, eqb-false}
 use Rattle.image.specs.Layout.{sections}
 use Rattle.image.specs.Rules.{wordsBefore, codeWords}
-use Rattle.image.proofs.CodeWords.{words-none, words-more}
+use Rattle.image.proofs.CodeWords.{words-more}
 use Rattle.visited.specs.Bits.{bitAt, visitedAt, withRun, cleared}
 use Rattle.visited.proofs.BitLaws.{bit-is-digit, run-length, run-is-set, run-changes-no-other}
 use Rattle.visited.proofs.Clearing.{cleared-length, cleared-below, cleared-keeps-rest}
-use Rattle.report.specs.Runs.{Run, runsOf, tab, wordsAt, runsIn}
+use Rattle.report.specs.Runs.{Run, tab, wordsAt, runsIn}
 use Rattle.report.specs.Marks.{withRuns, withSections, mapOf}
-use Rattle.report.proofs.RunLaws.{tab-step, tab-end}
-use Rattle.report.proofs.Laying.{words-within, words-grow}
+use Rattle.report.proofs.Laying.{words-within}
 use Rattle.report.proofs.ReadLaws.{marks-none, marks-more, section-marks-none, section-marks-more}
 use Rattle.report.proofs.Fitting.{Fits, AllFit}
-use Rattle.report.proofs.Showing.{Are, Shows, shown-runs, runs-shown, shown-same, shown-along}
+use Rattle.report.proofs.Showing.{Shows, shown-runs, runs-shown, shown-same, shown-along}
 
 -- the runs of a section
 pub marks-length : (ws : List ℕ) (b : ℕ) (rs : List Run) → length (withRuns ws b rs) ≡ length ws
@@ -94,10 +93,10 @@ sections-shown im ws i (rs ∷ rss) fit n clear room =
     let first : Shows (visitedAt m) b k rs = marks-shown ws 0 b k rs (fit .0) (λ j p q. clear j p (omega arith)) (omega arith) in
     rw whole (
       shown-along (visitedAt m) (visitedAt (withSections im m (i + 1) rss)) 0 b k rs (fit .0)
-      (λ j p q. ap (λ (n : ℕ). eqb n 1) (sections-before im m (i + 1) rss j (omega (arith, words-more im i)))) first,
+          (λ j p q. ap (λ (n : ℕ). eqb n 1) (sections-before im m (i + 1) rss j (omega (arith, words-more im i)))) first,
       sections-shown im m (i + 1) rss (fit .1) (omega arith)
-      (λ j p q. marks-past ws 0 b k rs j (fit .0) (omega (arith, words-more im i)) ∙ clear j (omega (arith, words-more im i)) q)
-      (omega (arith, marks-length ws b rs)),
+          (λ j p q. marks-past ws 0 b k rs j (fit .0) (omega (arith, words-more im i)) ∙ clear j (omega (arith, words-more im i)) q)
+          (omega (arith, marks-length ws b rs)),
     )
 
 -- sections that show runs have just these

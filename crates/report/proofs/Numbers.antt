@@ -3,7 +3,7 @@
 use mathlib.Core.Path.{_≡_, refl, sym, ap, _∙_}
 use mathlib.Core.Bool.{true}
 use mathlib.Core.List.{List, [], _∷_, _++_, append-assoc}
-use Prim.Native.Nat.{ℕ, suc, _+_, _-_, _^_, _≤_, _<_}
+use Prim.Native.Nat.{ℕ, _+_, _-_, _^_, _≤_, _<_}
 use native.Mathlib.Omega.{arith}
 use lib.ListN.{length}
 use Rattle.image.specs.Layout.{sections}
@@ -13,7 +13,7 @@ use Rattle.varint.specs.Groups.{varint}
 use Rattle.varint.specs.Value.{valueOf, marked}
 use Rattle.varint.proofs.Shortest.{varint-value, varint-marked, varint-shortest}
 use Rattle.report.specs.Runs.{Run, wordsAt, runsIn, allRuns}
-use Rattle.report.specs.Bytes.{runBytes, sectionBytes, sectionsBytes, reportBytes, reportOf}
+use Rattle.report.specs.Bytes.{runBytes, sectionsBytes, reportBytes, reportOf}
 use Rattle.report.proofs.RunLaws.{tab-length, no-bytes, run-bytes}
 use Rattle.report.proofs.Laying.{words-within, sections-nil, sections-cons}
 use Rattle.report.proofs.Fitting.{Fits, AllFit, fitting-few, map-runs-fit}

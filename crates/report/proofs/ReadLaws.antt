@@ -6,7 +6,7 @@ use mathlib.Core.List.{List, [], _∷_}
 use Prim.Native.Nat.{ℕ, zero, suc, _+_, _-_, _≤_, _<_}
 use native.Mathlib.Omega.{arith}
 use lib.ListN.{length}
-use lib.Dec.{eqb, leb}
+use lib.Dec.{leb}
 use borrow.Author.Tests.{leb-true, le-leb, eq-eqb, ne-eqb}
 use Rattle.words.specs.Choice.{pick}
 use Rattle.search.proofs.EveryLaws.{and-left, and-right}
@@ -116,44 +116,45 @@ pub marks-more : (ws : List ℕ) (b : ℕ) (r : Run) (rs : List Run) → withRun
 unfolding withRuns
 marks-more ws b r rs = refl
 
--- what holds at the head of the loop over a section's runs
-pub record ReadSoFar (s : List ℕ) (k words at : ℕ) (map₀ : List ℕ) (b p left least : ℕ) (map : List ℕ) (c j : ℕ) : Type 0 where
+-- what holds at the head of the loop over a section's runs: the words from c on are left
+pub record ReadSoFar (s : List ℕ) (k words at : ℕ) (map₀ : List ℕ) (b p least : ℕ) (map : List ℕ) (c j : ℕ) : Type 0 where
   pub most : j ≤ k
-  pub ends : c + left ≡ b + words
-  pub place : readRuns s (k - j) least left p .end ≡ readRuns s k 0 words at .end
-  pub marks : withRuns map c (readRuns s (k - j) least left p .runs) ≡ withRuns map₀ b (readRuns s k 0 words at .runs)
+  pub ends : c ≤ b + words
+  pub place : readRuns s (k - j) least (b + words - c) p .end ≡ readRuns s k 0 words at .end
+  pub marks : withRuns map c (readRuns s (k - j) least (b + words - c) p .runs) ≡ withRuns map₀ b (readRuns s k 0 words at .runs)
 
-pub reading-begins : (s : List ℕ) (k words at : ℕ) (map : List ℕ) (b : ℕ) → ReadSoFar s k words at map b at words 0 map b 0
+pub reading-begins : (s : List ℕ) (k words at : ℕ) (map : List ℕ) (b : ℕ) → ReadSoFar s k words at map b at 0 map b 0
 reading-begins s k words at map b =
     let e : k - 0 ≡ k = omega arith in
-    record { most = omega arith; ends = refl; place = rw e; marks = rw e }
+    let n : b + words - b ≡ words = omega arith in
+    record { most = omega arith; ends = omega arith; place = rw (e, n); marks = rw (e, n) }
 
-module _ (s : List ℕ) (k words at : ℕ) (map₀ : List ℕ) (b p left least : ℕ) (map : List ℕ) (c j : ℕ) (h : ReadSoFar s k words at map₀ b p left least map c j) where
-  pub run-inside : (g l e : ℕ) → runAt s least left p ≡ Next g l e → (g + l ≤ left) × (c + g + l ≤ b + words)
+module _ (s : List ℕ) (k words at : ℕ) (map₀ : List ℕ) (b p least : ℕ) (map : List ℕ) (c j : ℕ) (h : ReadSoFar s k words at map₀ b p least map c j) where
+  pub run-inside : (g l e : ℕ) → runAt s least (b + words - c) p ≡ Next g l e → c + g + l ≤ b + words
   run-inside g l e r =
-      let t : RunTold s least left p g l e = run-told s least left p g l e r in
-      (t .inside, omega (arith, h .ends, t .inside))
+      let t : RunTold s least (b + words - c) p g l e = run-told s least (b + words - c) p g l e r in
+      omega (arith, h .ends, t .inside)
 
-  pub run-read : (g l e : ℕ) (next : List ℕ) → j < k → runAt s least left p ≡ Next g l e → next ≡ withRun map (c + g) l
-      → ReadSoFar s k words at map₀ b e (left - g - l) 1 next (c + g + l) (j + 1)
+  pub run-read : (g l e : ℕ) (next : List ℕ) → j < k → runAt s least (b + words - c) p ≡ Next g l e → next ≡ withRun map (c + g) l
+      → ReadSoFar s k words at map₀ b e 1 next (c + g + l) (j + 1)
   run-read g l e next q r m =
-      let t : RunTold s least left p g l e = run-told s least left p g l e r in
       let y : k - j - 1 ≡ k - (j + 1) = omega arith in
-      let x : Parsed = readRuns s (k - (j + 1)) 1 (left - g - l) e in
-      let on : readRuns s (k - j) least left p ≡ after g l x =
-      runs-more s (k - j) least left p g l e (omega arith) r ∙ ap (λ (i : ℕ). after g l (readRuns s i 1 (left - g - l) e)) y in
+      let n : b + words - c - g - l ≡ b + words - (c + g + l) = omega arith in
+      let x : Parsed = readRuns s (k - (j + 1)) 1 (b + words - (c + g + l)) e in
+      let on : readRuns s (k - j) least (b + words - c) p ≡ after g l x =
+      runs-more s (k - j) least (b + words - c) p g l e (omega arith) r ∙ ap₂ (λ (i left : ℕ). after g l (readRuns s i 1 left e)) y n in
       record {
         most = omega arith;
-        ends = omega (arith, h .ends, t .inside);
+        ends = run-inside g l e r;
         place = ap (λ (z : Parsed). z .end) (sym on) ∙ h .place;
         marks =
             ap (λ (w : List ℕ). withRuns w (c + g + l) (x .runs)) m ∙ sym (marks-more map c (record { gap = g; len = l }) (x .runs))
             ∙ ap (λ (z : Parsed). withRuns map c (z .runs)) (sym on) ∙ h .marks;
       }
 
-  pub run-lost : j < k → runAt s least left p ≡ NoRun → (Lost ≡ readRuns s k 0 words at .end) × (map ≡ withRuns map₀ b (readRuns s k 0 words at .runs))
+  pub run-lost : j < k → runAt s least (b + words - c) p ≡ NoRun → (Lost ≡ readRuns s k 0 words at .end) × (map ≡ withRuns map₀ b (readRuns s k 0 words at .runs))
   run-lost q r =
-      let e : lost ≡ readRuns s (k - j) least left p = sym (runs-lost s (k - j) least left p (omega arith) r) in (
+      let e : lost ≡ readRuns s (k - j) least (b + words - c) p = sym (runs-lost s (k - j) least (b + words - c) p (omega arith) r) in (
         ap (λ (z : Parsed). z .end) e ∙ h .place,
         sym (marks-none map c) ∙ ap (λ (z : Parsed). withRuns map c (z .runs)) e ∙ h .marks,
       )
@@ -161,7 +162,7 @@ module _ (s : List ℕ) (k words at : ℕ) (map₀ : List ℕ) (b p left least :
   pub runs-read : k ≤ j → (At p ≡ readRuns s k 0 words at .end) × (map ≡ withRuns map₀ b (readRuns s k 0 words at .runs))
   runs-read q =
       let none : Parsed = record { runs = []; end = At p } in
-      let e : none ≡ readRuns s (k - j) least left p = sym (runs-done s (k - j) least left p (omega arith)) in (
+      let e : none ≡ readRuns s (k - j) least (b + words - c) p = sym (runs-done s (k - j) least (b + words - c) p (omega arith)) in (
         ap (λ (z : Parsed). z .end) e ∙ h .place,
         sym (marks-none map c) ∙ ap (λ (z : Parsed). withRuns map c (z .runs)) e ∙ h .marks,
       )
@@ -260,7 +261,7 @@ module _ (im s : List ℕ) (at : ℕ) (map₀ map : List ℕ) (p b i : ℕ) (h :
       m ∙ ap₂ (λ (d k : ℕ). withRuns map d (readSection s k p .runs)) (h .words) ec in (
         ap (λ (z : AllParsed). z .end) (sym on) ∙ h .place,
         marked ∙ sym (section-marks-none im _ (i + 1)) ∙ sym (section-marks-more im map i (x .runs) [])
-        ∙ ap (λ (z : AllParsed). withSections im map i (z .runs)) (sym on) ∙ h .marks,
+            ∙ ap (λ (z : AllParsed). withSections im map i (z .runs)) (sym on) ∙ h .marks,
       )
 
   pub sections-read : sections im ≤ i → (At p ≡ readSections im s (sections im) 0 at .end) × (map ≡ withSections im map₀ 0 (readSections im s (sections im) 0 at .runs))

@@ -7,7 +7,6 @@ use mathlib.Core.List.{List, [], _∷_}
 use Prim.Native.Nat.{ℕ, zero, suc, _+_, _-_, _≤_, _<_}
 use native.Mathlib.Decide.{decLt, ℕ-discrete}
 use native.Mathlib.Omega.{arith}
-use lib.ListN.{length}
 use Rattle.report.specs.Runs.{Run, run, runs, runsOf, tab}
 use Rattle.report.proofs.RunLaws.{tab-step, tab-end, run-on, gap-on, run-end, last-run, no-run}
 use Rattle.report.proofs.Fitting.{Fits}

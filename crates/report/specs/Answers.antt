@@ -1,7 +1,6 @@
 -- The answers of writing and reading a report, and what each leaves, for all inputs.
 -- Assumes nothing.
 use Prim.Native.Nat.{ℕ}
-use mathlib.Core.Bool.{Bool}
 use mathlib.Core.List.{List, _++_}
 use lib.ListN.{length, drop, replicate}
 use lib.Dec.{leb}
@@ -13,7 +12,7 @@ use Rattle.report.specs.declared.Wrote.the-variants as wrote
 use Rattle.report.specs.declared.Done.{Done}
 use Rattle.report.specs.declared.Done.the-variants as done
 use Rattle.report.specs.Bytes.{reportOf}
-use Rattle.report.specs.Reading.{AllParsed, onPlace, readReport}
+use Rattle.report.specs.Reading.{onPlace, readReport}
 use Rattle.report.specs.Marks.{mapOf}
 
 -- one of three, in document 01's order: a broken image, a map with fewer than W bits, else

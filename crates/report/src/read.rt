@@ -43,22 +43,23 @@ fn next_run(s: &[u8], at: usize, least: u32, left: u32) -> Found
     }
 }
 
-// k runs in some words, whose bits begin at b.
-fn read_runs(s: &[u8], at: usize, k: u32, words: u32, map: &mut [u32], b: u32) -> Place
-    requires { ⌜ b + words < 2 ^ 32 ⌝ }
-    ensures { λ r. ⌜ (r ≡ readRuns (now (s .entry)) k 0 words at .end) × (now (map .exit) ≡ withRuns (now (map .entry)) b (readRuns (now (s .entry)) k 0 words at .runs)) ⌝ }
+// k runs in some words from one on.
+fn read_runs(s: &[u8], at: usize, k: u32, words: u32, map: &mut [u32], from: WordNumber) -> Place
+    requires { ⌜ from .0 + words < 2 ^ 32 ⌝ }
+    ensures { λ r. ⌜ (r ≡ readRuns (now (s .entry)) k 0 words at .end) × (now (map .exit) ≡ withRuns (now (map .entry)) (from .0) (readRuns (now (s .entry)) k 0 words at .runs)) ⌝ }
 {
+    let b = from.0;
+    let end = b + words;
     let mut p = at;
-    let mut left = words;
     let mut least: u32 = 0;
     let mut c = b;
     let mut j: u32 = 0;
     while j < k {
-        match next_run(s, p, least, left) {
+        match next_run(s, p, least, end - c) {
             Found::Next(g, l, e) => {
-                visited::mark_run(map, WordNumber(c + g), l);
-                c = c + g + l;
-                left = left - g - l;
+                let first = c + g;
+                visited::mark_run(map, WordNumber(first), l);
+                c = first + l;
                 p = e;
                 least = 1;
                 j += 1;
@@ -71,14 +72,14 @@ fn read_runs(s: &[u8], at: usize, k: u32, words: u32, map: &mut [u32], b: u32) -
     Place::At(p)
 }
 
-// A section of so many words, whose bits begin at b: the place after it, or Lost. The words of the runs that read are
+// A section of so many words from one on: the place after it, or Lost. The words of the runs that read are
 // marked in the map, also of those before what is Lost; a caller who only judges lends a map of its own.
-pub fn read_section(s: &[u8], at: usize, words: u32, map: &mut [u32], b: u32) -> Place
-    requires { ⌜ b + words < 2 ^ 32 ⌝ }
-    ensures { λ r. ⌜ (r ≡ readSection (now (s .entry)) words at .end) × (now (map .exit) ≡ withRuns (now (map .entry)) b (readSection (now (s .entry)) words at .runs)) ⌝ }
+pub fn read_section(s: &[u8], at: usize, words: u32, map: &mut [u32], from: WordNumber) -> Place
+    requires { ⌜ from .0 + words < 2 ^ 32 ⌝ }
+    ensures { λ r. ⌜ (r ≡ readSection (now (s .entry)) words at .end) × (now (map .exit) ≡ withRuns (now (map .entry)) (from .0) (readSection (now (s .entry)) words at .runs)) ⌝ }
 {
     match varint::number(s, at) {
-        Read::Number(k, e) => read_runs(s, e, k, words, map, b),
+        Read::Number(k, e) => read_runs(s, e, k, words, map, from),
         Read::Bad => Place::Lost,
     }
 }
@@ -94,7 +95,7 @@ fn read_sections(im: &[u32], s: &[u8], at: usize, map: &mut [u32]) -> Place
     let mut i: usize = 0;
     while i < n {
         let c = words_at(im, i);
-        match read_section(s, p, c, map, b) {
+        match read_section(s, p, c, map, WordNumber(b)) {
             Place::At(e) => {
                 p = e;
                 b += c;

@@ -74,14 +74,15 @@ fn finish(buf: &mut [u8], s: Scan) -> usize
 }
 
 // The runs of some words from one on.
-fn write_runs(buf: &mut [u8], at: usize, map: &[u32], from: u32, words: u32) -> usize
-    requires { ⌜ (from + words < 2 ^ 31) × (at + length (runBytes (runsOf (tab (visitedAt (now map)) from words))) < 2 ^ 63) ⌝ }
-    ensures { λ r. ⌜ Laid (now (buf .entry)) (now (buf .exit)) at (runBytes (runsOf (tab (visitedAt (now (map .entry))) from words))) r ⌝ }
+fn write_runs(buf: &mut [u8], at: usize, map: &[u32], from: WordNumber, words: u32) -> usize
+    requires { ⌜ (from .0 + words < 2 ^ 31) × (at + length (runBytes (runsOf (tab (visitedAt (now map)) (from .0) words))) < 2 ^ 63) ⌝ }
+    ensures { λ r. ⌜ Laid (now (buf .entry)) (now (buf .exit)) at (runBytes (runsOf (tab (visitedAt (now (map .entry))) (from .0) words))) r ⌝ }
 {
+    let b = from.0;
     let mut s = Scan { at, gap: 0, len: 0 };
     let mut j: u32 = 0;
     while j < words {
-        let v = visited::contains(map, WordNumber(from + j));
+        let v = visited::contains(map, WordNumber(b + j));
         s = turn(buf, s, v);
         j += 1;
     }
@@ -102,15 +103,16 @@ fn closes(last: bool, v: bool) -> u32
 }
 
 // How many runs there are in some words from one on.
-fn count_runs(map: &[u32], from: u32, words: u32) -> u32
-    requires { ⌜ from + words < 2 ^ 31 ⌝ }
-    ensures { λ r. ⌜ r ≡ length (runsOf (tab (visitedAt (now (map .entry))) from words)) ⌝ }
+fn count_runs(map: &[u32], from: WordNumber, words: u32) -> u32
+    requires { ⌜ from .0 + words < 2 ^ 31 ⌝ }
+    ensures { λ r. ⌜ r ≡ length (runsOf (tab (visitedAt (now (map .entry))) (from .0) words)) ⌝ }
 {
+    let b = from.0;
     let mut n: u32 = 0;
     let mut last = false;
     let mut j: u32 = 0;
     while j < words {
-        let v = visited::contains(map, WordNumber(from + j));
+        let v = visited::contains(map, WordNumber(b + j));
         n += closes(last, v);
         last = v;
         j += 1;
@@ -119,9 +121,9 @@ fn count_runs(map: &[u32], from: u32, words: u32) -> u32
 }
 
 // A section: its run count, then its runs.
-fn write_section(buf: &mut [u8], at: usize, map: &[u32], from: u32, words: u32) -> usize
-    requires { ⌜ (from + words < 2 ^ 31) × (at + length (sectionBytes (runsOf (tab (visitedAt (now map)) from words))) < 2 ^ 63) ⌝ }
-    ensures { λ r. ⌜ Laid (now (buf .entry)) (now (buf .exit)) at (sectionBytes (runsOf (tab (visitedAt (now (map .entry))) from words))) r ⌝ }
+fn write_section(buf: &mut [u8], at: usize, map: &[u32], from: WordNumber, words: u32) -> usize
+    requires { ⌜ (from .0 + words < 2 ^ 31) × (at + length (sectionBytes (runsOf (tab (visitedAt (now map)) (from .0) words))) < 2 ^ 63) ⌝ }
+    ensures { λ r. ⌜ Laid (now (buf .entry)) (now (buf .exit)) at (sectionBytes (runsOf (tab (visitedAt (now (map .entry))) (from .0) words))) r ⌝ }
 {
     let n = count_runs(map, from, words);
     let p = varint::put(buf, at, n);
@@ -139,7 +141,7 @@ fn write_sections(buf: &mut [u8], at: usize, im: &[u32], map: &[u32]) -> usize
     let mut i: usize = 0;
     while i < n {
         let c = words_at(im, i);
-        p = write_section(buf, p, map, b, c);
+        p = write_section(buf, p, map, WordNumber(b), c);
         b += c;
         i += 1;
     }

@@ -6,7 +6,7 @@ use lib.Dec.{T}
 use mathlib.Core.List.{List}
 use Prim.Native.Nat.{ℕ, zero, suc, _+_, _-_, _/_, _≤_, _<_}
 use native.Mathlib.Omega.{arith}
-use lib.ListN.{length}
+use lib.ListN.{length, set, length-set}
 use Rattle.words.specs.Bytes.{be32}
 use Rattle.places.specs.Places.{moved}
 use Rattle.places.specs.declared.SectionAddress.{SectionAddress}
@@ -16,7 +16,7 @@ use Rattle.decoder.specs.declared.Decoded.{Decoded}
 use Rattle.decoder.specs.Decode.{decoded}
 use Rattle.vm.specs.declared.Gpr.{Gpr}
 use Rattle.vm.specs.declared.VM.{VM}
-use Rattle.vm.specs.Registers.{reg, crAt}
+use Rattle.vm.specs.Registers.{blank, reg, withReg, crAt}
 use Rattle.step.specs.declared.Way.{Way}
 use Rattle.step.specs.declared.Effect.{Effect}
 use Rattle.step.specs.declared.Effect.the-variants.{Nothing, SetD, SetA, Compare, ToLr, ToCtr, FromLr, FromCtr, Load, Store, Clear, Leaves}
@@ -24,7 +24,7 @@ use Rattle.step.specs.declared.Leave.{Leave}
 use Rattle.step.specs.declared.Leave.the-variants.{Ended, Illegal, Jump, Call, Fork, Both}
 use Rattle.step.specs.declared.Stopped.{Stopped}
 use Rattle.step.specs.declared.Stepped.{Stepped}
-use Rattle.step.specs.Arms.{rD, rA, rB, effectOf}
+use Rattle.step.specs.Arms.{rD, rA, rB, seenAt, effectOf}
 use Rattle.step.specs.Ways.{biOf, leaveOf, leftOf}
 use Rattle.step.specs.Step.{accessResult, doneOf, effectIn, stepOf}
 use Rattle.step.specs.Runs.{onGoing, leaveBy, stoppedAt, runOf}
@@ -161,3 +161,37 @@ unfolding runOf
 run-ends {ws} {code} {r} {i} {p} {t} run few =
     let n : (length code - i) / 4 ≡ 0 = omega arith in
     ap (λ (k : ℕ). runOf ws code i k p t) (sym n) ∙ run .comes
+
+-- the words that a run takes by themselves: one that sets rD, one that sets rA, a load, a store
+pub on-set-d : {ws code : List ℕ} {r : Stopped} {i : ℕ} {p p′ : SectionAddress} {t : VM} {w d a b : ℕ} {dec : Decoded} {g : Gpr}
+    → Running ws code r i p t → 4 ≤ length code - i → w ≡ be32 code i → d ≡ rD w → a ≡ rA w → b ≡ rB w → dec ≡ decoded w
+    → p′ ≡ moved p 4 → effectOf dec ws p w (reg t d) (reg t a) (reg t b) ≡ SetD g
+    → Running ws code r (i + 4) p′ (withReg t d g)
+unfolding doneOf
+on-set-d {t = t} {d = d} {g = g} run room ew ed ea eb edec ep ex =
+    step-on run room ew ed ea eb edec refl ex ep tt (rw ed) (length-set (t .gpr) d g ∙ run .gprs) (run .crs)
+
+pub on-set-a : {ws code : List ℕ} {r : Stopped} {i : ℕ} {p p′ : SectionAddress} {t : VM} {w d a b : ℕ} {dec : Decoded} {g : Gpr}
+    → Running ws code r i p t → 4 ≤ length code - i → w ≡ be32 code i → d ≡ rD w → a ≡ rA w → b ≡ rB w → dec ≡ decoded w
+    → p′ ≡ moved p 4 → effectOf dec ws p w (reg t d) (reg t a) (reg t b) ≡ SetA g
+    → Running ws code r (i + 4) p′ (withReg t a g)
+unfolding doneOf
+on-set-a {t = t} {a = a} {g = g} run room ew ed ea eb edec ep ex =
+    step-on run room ew ed ea eb edec refl ex ep tt (rw ea) (length-set (t .gpr) a g ∙ run .gprs) (run .crs)
+
+pub on-load : {ws code : List ℕ} {r : Stopped} {i : ℕ} {p p′ : SectionAddress} {t : VM} {w d a b : ℕ} {dec : Decoded} {g z : Gpr}
+    → Running ws code r i p t → 4 ≤ length code - i → w ≡ be32 code i → d ≡ rD w → a ≡ rA w → b ≡ rB w → dec ≡ decoded w
+    → p′ ≡ moved p 4 → z ≡ blank → effectOf dec ws p w (reg t d) (reg t a) (reg t b) ≡ Load g (seenAt ws p w (g .value))
+    → Running ws code r (i + 4) p′ (withReg (withReg t a g) d z)
+unfolding doneOf
+on-load {t = t} {d = d} {a = a} {g = g} {z = z} run room ew ed ea eb edec ep ez ex =
+    step-on run room ew ed ea eb edec refl ex ep tt (rw (ez, ed, ea))
+    (length-set (set (t .gpr) a g) d z ∙ length-set (t .gpr) a g ∙ run .gprs) (run .crs)
+
+pub on-store : {ws code : List ℕ} {r : Stopped} {i : ℕ} {p p′ : SectionAddress} {t : VM} {w d a b : ℕ} {dec : Decoded} {g : Gpr}
+    → Running ws code r i p t → 4 ≤ length code - i → w ≡ be32 code i → d ≡ rD w → a ≡ rA w → b ≡ rB w → dec ≡ decoded w
+    → p′ ≡ moved p 4 → effectOf dec ws p w (reg t d) (reg t a) (reg t b) ≡ Store g (seenAt ws p w (g .value))
+    → Running ws code r (i + 4) p′ (withReg t a g)
+unfolding doneOf
+on-store {t = t} {a = a} {g = g} run room ew ed ea eb edec ep ex =
+    step-on run room ew ed ea eb edec refl ex ep tt (rw ea) (length-set (t .gpr) a g ∙ run .gprs) (run .crs)

@@ -10,14 +10,18 @@ use crate::Effect;
 use crate::Leave;
 use crate::Stopped;
 use crate::arms;
+use crate::records;
 use crate::ways;
+use decoder::Op;
 use decoder::Writes;
 use places::SectionAddress;
 use vm::GprValue;
 use vm::Held;
 use vm::VM;
 use vm::register::set_direct;
+use vm::rule;
 use words::field;
+use words::mask;
 
 // `code` is the bytes from the place on, to its section's end.
 pub fn run(im: &[u32], code: &[u8], at: SectionAddress, s: VM) -> Stopped
@@ -32,10 +36,99 @@ pub fn run(im: &[u32], code: &[u8], at: SectionAddress, s: VM) -> Stopped
         let d = field::rd(w);
         let a = field::ra(w);
         let b = field::rb(w);
-        let e = arms::effect(im, p, w, decoder::decode(w), t.gpr[d], t.gpr[a], t.gpr[b]);
         let q = p;
         p = places::offset(p, 4);
         i = i + 4;
+        let dec = decoder::decode(w);
+        let op = dec.op;
+        // The commonest words first: these read no more registers than they need, and a base that is not updated stays.
+        match op {
+            // addi rD, rA, SIMM
+            Op::Addi => {
+                let known = lookups::target_at(im, q);
+                t.gpr[d] = records::addi(known, a == 0, q, w, t.gpr[a]);
+                continue;
+            }
+            // addis rD, rA, SIMM
+            Op::Addis => {
+                let known = lookups::target_at(im, q);
+                let g = t.gpr[a];
+                let left = g.value;
+                t.gpr[d] = records::addis(known, q, w, left);
+                continue;
+            }
+            // add rD, rA, rB
+            Op::Add => {
+                let g = t.gpr[a];
+                let h = t.gpr[b];
+                let left = g.value;
+                let right = h.value;
+                let v = rule::add(left, right);
+                t.gpr[d] = set_direct(v);
+                continue;
+            }
+            // or rA, rS, rB
+            Op::Or => {
+                t.gpr[a] = records::or(w, t.gpr[d], t.gpr[b]);
+                continue;
+            }
+            // ori rA, rS, UIMM
+            Op::Ori => {
+                let known = lookups::target_at(im, q);
+                t.gpr[a] = records::ori(known, q, w, t.gpr[d]);
+                continue;
+            }
+            // rlwinm rA, rS, SH, MB, ME
+            Op::Rlwinm => {
+                let g = t.gpr[d];
+                let value = g.value;
+                let m = mask::mask_value(field::mb(w), field::me(w));
+                let v = rule::rotate(value, field::sh(w), m);
+                t.gpr[a] = set_direct(v);
+                continue;
+            }
+            // lwz rD, d(rA)
+            Op::Lwz => {
+                let g = t.gpr[a];
+                t.gpr[a] = g;
+                t.gpr[d] = set_direct(GprValue::Unknown);
+                continue;
+            }
+            // lbz rD, d(rA)
+            Op::Lbz => {
+                let g = t.gpr[a];
+                t.gpr[a] = g;
+                t.gpr[d] = set_direct(GprValue::Unknown);
+                continue;
+            }
+            // lhz rD, d(rA)
+            Op::Lhz => {
+                let g = t.gpr[a];
+                t.gpr[a] = g;
+                t.gpr[d] = set_direct(GprValue::Unknown);
+                continue;
+            }
+            // stw rS, d(rA)
+            Op::Stw => {
+                let g = t.gpr[a];
+                t.gpr[a] = g;
+                continue;
+            }
+            // stb rS, d(rA)
+            Op::Stb => {
+                let g = t.gpr[a];
+                t.gpr[a] = g;
+                continue;
+            }
+            // sth rS, d(rA)
+            Op::Sth => {
+                let g = t.gpr[a];
+                t.gpr[a] = g;
+                continue;
+            }
+            _ => {}
+        }
+        let e = arms::effect(im, q, w, dec, t.gpr[d], t.gpr[a], t.gpr[b]);
         match e {
             Effect::Nothing => {
                 continue;

@@ -1,7 +1,7 @@
 -- Bytes that stand at a place of a list; and that a number reads there exactly where its bytes stand there.
 -- Assumes nothing.
 use mathlib.Core.Path.{_≡_, refl, sym, ap, ap₂, _∙_}
-use mathlib.Core.List.{List, [], _∷_, _++_}
+use mathlib.Core.List.{List, [], _∷_}
 use Prim.Native.Nat.{ℕ, zero, suc, _+_, _-_, _*_, _/_, _%_, _^_, _≤_, _<_}
 use native.Mathlib.Decide.{decLt, ℕ-discrete}
 use native.Mathlib.Omega.{arith}
@@ -10,7 +10,7 @@ use lib.ListN.{length, getD}
 use Rattle.varint.specs.declared.Read.{Read}
 use Rattle.varint.specs.declared.Read.the-variants.{Number, Bad}
 use Rattle.varint.specs.Groups.{groups, varint, joined, readGroups, numberAt}
-use Rattle.varint.proofs.GroupLaws.{last-group, no-group, more-groups, read-end, read-last, read-cut, read-more, joined-zero, joined-large, joined-fits}
+use Rattle.varint.proofs.GroupLaws.{last-group, more-groups, read-end, read-last, read-cut, read-more, joined-zero, joined-large, joined-fits}
 
 -- the bytes xs stand in s from at on
 abbrev pub Stands : List ℕ → ℕ → List ℕ → Type 0

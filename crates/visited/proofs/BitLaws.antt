@@ -9,7 +9,7 @@ use native.Mathlib.Numerals.{add-one}
 use native.Mathlib.Omega.{arith}
 use lib.Dec.{leb}
 use borrow.Author.Tests.{le-leb, lt-leb}
-use lib.ListN.{length, getD, set, length-set, List·getD-eq-default}
+use lib.ListN.{length, length-set, List·getD-eq-default}
 use lib.Seq.{getD-set-same, getD-set-other, set-out}
 use lib.Pow.{pow-pos, pow-lt, pow-add, shl-shr, shl-exact}
 use lib.Bits.{bitOr, or-shr, or-step}
@@ -89,6 +89,12 @@ pub run-length : (ws : List ℕ) (b k : ℕ) → length (withRun ws b k) ≡ len
 unfolding withRun
 run-length ws b zero = refl
 run-length ws b (suc k) = inserted-length (withRun ws b k) (b + k) ∙ run-length ws b k
+
+pub run-past-end : (ws : List ℕ) (b k : ℕ) → length ws ≤ b / 32 → withRun ws b k ≡ ws
+unfolding withRun
+run-past-end ws b zero h = refl
+run-past-end ws b (suc k) h =
+    ap (λ (vs : List ℕ). withBit vs (b + k)) (run-past-end ws b k h) ∙ inserted-past-end ws (b + k) (omega arith)
 
 pub run-one-more : (ws vs us : List ℕ) (b k : ℕ) → vs ≡ withRun ws b k → us ≡ withBit vs (b + k) → us ≡ withRun ws b (k + 1)
 unfolding withRun

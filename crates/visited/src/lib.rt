@@ -36,6 +36,9 @@ pub fn mark_run(map: &mut [u32], from: WordNumber, k: u32)
     ensures { λ r. ⌜ now (map .exit) ≡ withRun (now (map .entry)) (from .0) k ⌝ }
 {
     let b = from.0 as usize;
+    if map.len() <= b / 32 {
+        return;
+    }
     let n = k as usize;
     let mut j: usize = 0;
     while j < n {

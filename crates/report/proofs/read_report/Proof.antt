@@ -1,15 +1,16 @@
-use Rattle.report.proofs.Answering.{judged-sound, judged-broken, tables-there, read-broken, read-small, read-no-report, read-done}
+-- `report::read_report` meets its contract.
+-- Assumes nothing.
+use mathlib.Core.List.{List}
+use mathlib.Core.Path.{sym, ap, _∙_}
+use Prim.Native.Nat.{ℕ}
+use denote.Ref.{now}
+use lib.ListN.{length}
+use borrow.Author.Tests.{not-true, not-false}
+use borrow.Author.Needs.{needs}
 use Rattle.report.specs.Marks.{withSections}
 use Rattle.report.specs.Reading.{readReport}
 use Rattle.visited.specs.Bits.{hasRoom, cleared}
-use borrow.Author.Tests.{not-true, not-false}
-use lib.ListN.{length}
-use mathlib.Core.List.{List}
-use Prim.Native.Nat.{ℕ}
-use mathlib.Core.Path.{_≡_, refl, sym, ap, _∙_}
-use denote.Ref.{now}
-use native.Mathlib.Omega.{arith}
-use borrow.Author.Needs.{needs}
+use Rattle.report.proofs.Answering.{judged-sound, judged-broken, tables-there, read-broken, read-small, read-no-report, read-done}
 use Rattle.report.proofs.read_report.Statement.{statement}
 use Rattle.report.proofs.read_report.Tie as tie
 
@@ -23,7 +24,7 @@ enum-told-2 : tie.Need-enum-told-2
 enum-told-2 c = search needs
 
 code-words-requires : tie.Need-code-words-requires
-code-words-requires c κs = 
+code-words-requires c κs =
     let a = c .before .before .before .before .before .before .before .args in
     let sound = judged-sound (now (a .im)) (length (now (a .«data»))) (sym (c .before .before .check-image .ensures) ∙ c .enum-told2 .given .1) in
     tables-there (now (a .im)) (length (now (a .«data»))) sound .0
@@ -35,7 +36,7 @@ same-length : tie.Need-same-length
 same-length c = search needs
 
 returns : tie.Need-returns
-returns c = 
+returns c =
     let a = c .before .before .before .before .before .before .before .before .before .before .before .args in
     let sound = judged-sound (now (a .im)) (length (now (a .«data»))) (sym (c .before .before .before .before .before .before .check-image .ensures) ∙ c .before .before .before .before .enum-told2 .given .1) in
     let w = c .before .before .before .code-words .ensures in
@@ -45,7 +46,7 @@ slice-aggregate-read-whole : tie.Need-slice-aggregate-read-whole
 slice-aggregate-read-whole c = search needs
 
 read-whole-requires : tie.Need-read-whole-requires
-read-whole-requires c κs = 
+read-whole-requires c κs =
     let a = c .before .before .before .before .before .before .before .before .before .before .before .before .args in
     let sound = judged-sound (now (a .im)) (length (now (a .«data»))) (sym (c .before .before .before .before .before .before .before .check-image .ensures) ∙ c .before .before .before .before .before .enum-told2 .given .1) in
     tables-there (now (a .im)) (length (now (a .«data»))) sound
@@ -60,13 +61,13 @@ clear-requires : tie.Need-clear-requires
 clear-requires c κs = search needs
 
 read-whole-requires-2 : tie.Need-read-whole-requires-2
-read-whole-requires-2 c κs = 
+read-whole-requires-2 c κs =
     let a = c .before .before .before .before .before .before .before .before .before .before .before .before .before .before .before .before .before .before .before .before .before .args in
     let sound = judged-sound (now (a .im)) (length (now (a .«data»))) (sym (c .before .before .before .before .before .before .before .before .before .before .before .before .before .before .before .before .check-image .ensures) ∙ c .before .before .before .before .before .before .before .before .before .before .before .before .before .before .enum-told2 .given .1) in
     tables-there (now (a .im)) (length (now (a .«data»))) sound
 
 returns-2 : tie.Need-returns-2
-returns-2 c = 
+returns-2 c =
     let a = c .before .before .before .before .before .before .before .args in
     read-broken (now (a .im)) (length (now (a .«data»))) (now (a .bytes)) (now (a .map)) (judged-broken (now (a .im)) (length (now (a .«data»))) (sym (c .before .before .check-image .ensures) ∙ c .enum-told .given .1))
 
@@ -74,7 +75,7 @@ same-length-2 : tie.Need-same-length-2
 same-length-2 c = search needs
 
 returns-3 : tie.Need-returns-3
-returns-3 c = 
+returns-3 c =
     let a = c .before .before .before .before .before .before .before .before .before .before .before .before .before .before .before .before .args in
     let sound = judged-sound (now (a .im)) (length (now (a .«data»))) (sym (c .before .before .before .before .before .before .before .before .before .before .before .check-image .ensures) ∙ c .before .before .before .before .before .before .before .before .before .enum-told2 .given .1) in
     let w = c .before .before .before .before .before .before .before .before .code-words .ensures in
@@ -84,7 +85,7 @@ same-length-3 : tie.Need-same-length-3
 same-length-3 c = search needs
 
 returns-4 : tie.Need-returns-4
-returns-4 c = 
+returns-4 c =
     let a = c .before .before .before .before .before .before .before .before .before .before .before .before .before .before .before .before .before .before .before .before .before .before .before .before .args in
     let sound = judged-sound (now (a .im)) (length (now (a .«data»))) (sym (c .before .before .before .before .before .before .before .before .before .before .before .before .before .before .before .before .before .before .before .check-image .ensures) ∙ c .before .before .before .before .before .before .before .before .before .before .before .before .before .before .before .before .before .enum-told2 .given .1) in
     let w = c .before .before .before .before .before .before .before .before .before .before .before .before .before .before .before .before .code-words .ensures in

@@ -1,13 +1,13 @@
 -- `visited::mark_run` meets its contract.
 -- Assumes nothing.
-use mathlib.Core.Path.{_≡_, refl, ap, _∙_}
+use mathlib.Core.Path.{_≡_, refl, sym, ap, _∙_}
 use Prim.Native.Nat.{_-_, _≤_}
 use native.Mathlib.Omega.{arith}
 use denote.Ref.{now}
 use lib.ListN.{length}
 use borrow.Author.Needs.{needs}
 use Rattle.visited.specs.Bits.{withRun}
-use Rattle.visited.proofs.BitLaws.{run-one-more, run-length}
+use Rattle.visited.proofs.BitLaws.{run-one-more, run-length, run-past-end}
 use Rattle.visited.proofs.mark_run.Statement.{statement}
 use Rattle.visited.proofs.mark_run.Tie as tie
 
@@ -19,6 +19,9 @@ abbrev μ-loop : tie.MeasureT-loop
 
 cast-b : tie.Need-cast-b Inv-loop μ-loop
 cast-b c = search needs
+
+returns : tie.Need-returns Inv-loop μ-loop
+returns c = let a = c .before .before .before .args in sym (run-past-end (now (a .map)) (a .from .0) (a .k) (c .if1 .taken))
 
 loop-holds : tie.Need-loop-holds Inv-loop μ-loop
 unfolding withRun
@@ -39,19 +42,19 @@ loop-less c = search needs
 loop-again : tie.Need-loop-again Inv-loop μ-loop
 loop-again c =
     let l = c .before .before .before .before .before .loop in
-    let a = c .before .before .before .before .before .before .before .before .args in
+    let a = c .before .before .before .before .before .before .before .before .before .args in
     (omega arith, run-one-more (now (a .map)) (l .map) _ (a .from .0) (l .j) (l .inv .1) (c .before .before .set-bit .ensures))
 
 same-length : tie.Need-same-length Inv-loop μ-loop
 same-length c =
     let l = c .before .loop in
-    let a = c .before .before .before .before .args in
+    let a = c .before .before .before .before .before .args in
     ap length (l .inv .1) ∙ run-length (now (a .map)) (a .from .0) (l .j)
 
-returns : tie.Need-returns Inv-loop μ-loop
-returns c =
+returns-2 : tie.Need-returns-2 Inv-loop μ-loop
+returns-2 c =
     let l = c .before .loop in
-    let a = c .before .before .before .before .args in
+    let a = c .before .before .before .before .before .args in
     let e : l .j ≡ a .k = omega arith in
     l .inv .1 ∙ ap (withRun (now (a .map)) (a .from .0)) e
 
@@ -62,6 +65,7 @@ mark-run-spec =
     Inv-loop
     μ-loop
     cast-b
+    returns
     loop-holds
     add-set-bit
     set-bit-requires
@@ -69,4 +73,4 @@ mark-run-spec =
     loop-less
     loop-again
     same-length
-    returns)
+    returns-2)

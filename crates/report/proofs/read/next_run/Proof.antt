@@ -1,65 +1,51 @@
-use Rattle.report.proofs.ReadLaws.{run-no-gap, run-no-length, run-judged}
+-- `report::read::next_run` meets its contract.
+-- Assumes nothing.
 use mathlib.Core.Bool.{true, false}
-use mathlib.Core.Path.{_≡_, refl, sym, ap, _∙_}
+use mathlib.Core.Path.{sym, _∙_}
 use denote.Ref.{now}
-use native.Mathlib.Omega.{arith}
 use borrow.Author.Needs.{needs}
+use Rattle.report.proofs.ReadLaws.{run-no-gap, run-no-length, run-judged}
 use Rattle.report.proofs.read.next_run.Statement.{statement}
 use Rattle.report.proofs.read.next_run.Tie as tie
-use Rattle.report.proofs.read.next_run.Reads as reads
-use Rattle.report.proofs.read.next_run.Lts as lts
-use Rattle.report.proofs.read.run_fits.Reads as run-fits-reads
-use Rattle.varint.proofs.number.Reads as number-reads
 
--- src/read.rt:32:11
 number-requires : tie.Need-number-requires
 number-requires c κs = search needs
 
--- src/read.rt:33:22
 enum-told : tie.Need-enum-told
 enum-told c = search needs
 
--- src/read.rt:34:22
 enum-known-g : tie.Need-enum-known-g
 enum-known-g c = search needs
 
--- src/read.rt:34:37
 number-requires-2 : tie.Need-number-requires-2
 number-requires-2 c κs = search needs
 
--- src/read.rt:35:26
 enum-told-2 : tie.Need-enum-told-2
 enum-told-2 c = search needs
 
--- src/read.rt:36:26
 enum-known-l : tie.Need-enum-known-l
 enum-known-l c = search needs
 
--- src/read.rt:37:20
 run-fits-requires : tie.Need-run-fits-requires
 run-fits-requires c κs = search needs
 
--- src/read.rt:38:21
 returns : tie.Need-returns
-returns c = 
+returns c =
     let a = c .before .before .before .before .before .before .before .before .before .before .before .args in
     let x = c .before .before .before .before .before .before .before .g .given in
     let y = c .before .before .before .l .given in
     run-judged (now (a .s)) (a .least) (a .left) (a .at) _ _ _ _ true (sym (c .before .before .before .before .before .before .before .before .before .number .ensures) ∙ x .1) (sym (c .before .before .before .before .before .number2 .ensures) ∙ y .1) (sym (c .before .run-fits .ensures) ∙ c .if1 .taken)
 
--- src/read.rt:29:1
 returns-2 : tie.Need-returns-2
 returns-2 c = let a = c .before .before .before .before .args in run-no-gap (now (a .s)) (a .least) (a .left) (a .at) (sym (c .before .before .number .ensures) ∙ c .enum-told .given .1)
 
--- src/read.rt:29:1
 returns-3 : tie.Need-returns-3
-returns-3 c = 
+returns-3 c =
     let a = c .before .before .before .before .before .before .before .before .args in
     run-no-length (now (a .s)) (a .least) (a .left) (a .at) _ _ (sym (c .before .before .before .before .before .before .number .ensures) ∙ c .before .before .before .before .g .given .1) (sym (c .before .before .number2 .ensures) ∙ c .enum-told2 .given .1)
 
--- src/read.rt:29:1
 returns-4 : tie.Need-returns-4
-returns-4 c = 
+returns-4 c =
     let a = c .before .before .before .before .before .before .before .before .before .before .before .args in
     let x = c .before .before .before .before .before .before .before .g .given in
     let y = c .before .before .before .l .given in

@@ -1,61 +1,49 @@
-use Rattle.report.proofs.ReadLaws.{head-no-version, head-other-version, head-no-count, head-other-count, head-right}
-use mathlib.Core.Path.{_≡_, refl, sym, ap, _∙_}
-use denote.Ref.{now}
+-- `report::read::read_head` meets its contract.
+-- Assumes nothing.
+use mathlib.Core.Path.{sym, _∙_}
 use native.Mathlib.Omega.{arith}
+use denote.Ref.{now}
 use borrow.Author.Needs.{needs}
+use Rattle.report.proofs.ReadLaws.{head-no-version, head-other-version, head-no-count, head-other-count, head-right}
 use Rattle.report.proofs.read.read_head.Statement.{statement}
 use Rattle.report.proofs.read.read_head.Tie as tie
-use Rattle.report.proofs.read.read_head.Reads as reads
-use Rattle.report.proofs.read.read_head.Lts as lts
-use Rattle.varint.proofs.number.Reads as number-reads
 
--- src/read.rt:115:11
 number-requires : tie.Need-number-requires
 number-requires c κs = search needs
 
--- src/read.rt:116:22
 enum-told : tie.Need-enum-told
 enum-told c = search needs
 
--- src/read.rt:117:22
 enum-known-v : tie.Need-enum-known-v
 enum-known-v c = search needs
 
--- src/read.rt:119:17
 returns : tie.Need-returns
 returns c = let a = c .before .before .before .before .before .before .args in head-other-version (now (a .s)) (a .n) _ _ (sym (c .before .before .before .before .number .ensures) ∙ c .before .before .v .given .1) (c .if1 .taken)
 
--- src/read.rt:121:19
 number-requires-2 : tie.Need-number-requires-2
 number-requires-2 c κs = search needs
 
--- src/read.rt:122:30
 enum-told-2 : tie.Need-enum-told-2
 enum-told-2 c = search needs
 
--- src/read.rt:123:30
 enum-known-m : tie.Need-enum-known-m
 enum-known-m c = search needs
 
--- src/read.rt:125:25
 returns-2 : tie.Need-returns-2
-returns-2 c = 
+returns-2 c =
     let a = c .before .before .before .before .before .before .before .before .before .before .before .args in
     head-other-count (now (a .s)) (a .n) _ _ _ _ (sym (c .before .before .before .before .before .before .before .before .before .number .ensures) ∙ c .before .before .before .before .before .before .before .v .given .1) (omega arith) (sym (c .before .before .before .before .number2 .ensures) ∙ c .before .before .m .given .1) (c .if2 .taken)
 
--- src/read.rt:112:1
 returns-3 : tie.Need-returns-3
 returns-3 c = let a = c .before .before .before .before .args in head-no-version (now (a .s)) (a .n) (sym (c .before .before .number .ensures) ∙ c .enum-told .given .1)
 
--- src/read.rt:112:1
 returns-4 : tie.Need-returns-4
-returns-4 c = 
+returns-4 c =
     let a = c .before .before .before .before .before .before .before .before .before .args in
     head-no-count (now (a .s)) (a .n) _ _ (sym (c .before .before .before .before .before .before .before .number .ensures) ∙ c .before .before .before .before .before .v .given .1) (omega arith) (sym (c .before .before .number2 .ensures) ∙ c .enum-told2 .given .1)
 
--- src/read.rt:112:1
 returns-5 : tie.Need-returns-5
-returns-5 c = 
+returns-5 c =
     let a = c .before .before .before .before .before .before .before .before .before .before .before .args in
     head-right (now (a .s)) (a .n) _ _ _ _ (sym (c .before .before .before .before .before .before .before .before .before .number .ensures) ∙ c .before .before .before .before .before .before .before .v .given .1) (omega arith) (sym (c .before .before .before .before .number2 .ensures) ∙ c .before .before .m .given .1) (omega arith)
 

@@ -1,9 +1,11 @@
-use Rattle.report.proofs.ReadLaws.{whole-no-head, whole-lost, whole-early, whole-read}
-use Rattle.report.specs.Reading.{headAt}
-use mathlib.Core.Path.{_≡_, refl, sym, ap, _∙_}
-use denote.Ref.{now}
+-- `report::read::read_whole` meets its contract.
+-- Assumes nothing.
+use mathlib.Core.Path.{sym, ap, _∙_}
 use native.Mathlib.Omega.{arith}
+use denote.Ref.{now}
 use borrow.Author.Needs.{needs}
+use Rattle.report.specs.Reading.{headAt}
+use Rattle.report.proofs.ReadLaws.{whole-no-head, whole-lost, whole-early, whole-read}
 use Rattle.report.proofs.read.read_whole.Statement.{statement}
 use Rattle.report.proofs.read.read_whole.Tie as tie
 
@@ -35,14 +37,14 @@ same-length : tie.Need-same-length
 same-length c = search needs
 
 returns : tie.Need-returns
-returns c = 
+returns c =
     let a = c .before .before .before .before .before .before .before .before .before .before .before .before .before .before .before .before .args in
     let d = ap (headAt (now (a .s))) (sym (c .before .before .before .before .before .before .before .before .before .before .before .before .section-count .ensures)) ∙ sym (c .before .before .before .before .before .before .before .before .before .before .before .read-head .ensures) ∙ c .before .before .before .before .before .before .before .before .before .e .given .1 in
     let r = c .before .before .before .before .before .before .read-sections .ensures in
     whole-early (now (a .im)) (now (a .s)) (now (a .map)) _ d _ _ (sym (c .before .before .f .given .1) ∙ r .0) (c .if1 .taken) (r .1)
 
 returns-2 : tie.Need-returns-2
-returns-2 c = 
+returns-2 c =
     let a = c .before .before .before .before .before .before .before .args in
     whole-no-head (now (a .im)) (now (a .s)) (now (a .map)) (ap (headAt (now (a .s))) (sym (c .before .before .before .section-count .ensures)) ∙ sym (c .before .before .read-head .ensures) ∙ c .enum-told .given .1)
 
@@ -50,7 +52,7 @@ same-length-2 : tie.Need-same-length-2
 same-length-2 c = search needs
 
 returns-3 : tie.Need-returns-3
-returns-3 c = 
+returns-3 c =
     let a = c .before .before .before .before .before .before .before .before .before .before .before .before .before .before .args in
     let d = ap (headAt (now (a .s))) (sym (c .before .before .before .before .before .before .before .before .before .before .section-count .ensures)) ∙ sym (c .before .before .before .before .before .before .before .before .before .read-head .ensures) ∙ c .before .before .before .before .before .before .before .e .given .1 in
     let r = c .before .before .before .before .read-sections .ensures in
@@ -60,7 +62,7 @@ same-length-3 : tie.Need-same-length-3
 same-length-3 c = search needs
 
 returns-4 : tie.Need-returns-4
-returns-4 c = 
+returns-4 c =
     let a = c .before .before .before .before .before .before .before .before .before .before .before .before .before .before .before .before .args in
     let d = ap (headAt (now (a .s))) (sym (c .before .before .before .before .before .before .before .before .before .before .before .before .section-count .ensures)) ∙ sym (c .before .before .before .before .before .before .before .before .before .before .before .read-head .ensures) ∙ c .before .before .before .before .before .before .before .before .before .e .given .1 in
     let r = c .before .before .before .before .before .before .read-sections .ensures in

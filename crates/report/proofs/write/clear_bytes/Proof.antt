@@ -1,13 +1,13 @@
-use Rattle.report.proofs.Laying.{ZeroTo, zero-one-more, zero-whole}
-use lib.ListN.{length, length-set}
-use Prim.Native.Nat.{ℕ, _+_, _-_, _*_, _≤_, _<_}
-use mathlib.Core.Path.{_≡_, refl, sym, ap, _∙_}
+-- `report::write::clear_bytes` meets its contract.
+-- Assumes nothing.
+use mathlib.Core.Path.{_≡_, refl}
+use Prim.Native.Nat.{_-_, _≤_}
 use native.Mathlib.Omega.{arith}
+use lib.ListN.{length, length-set}
 use borrow.Author.Needs.{needs}
+use Rattle.report.proofs.Laying.{ZeroTo, zero-one-more, zero-whole}
 use Rattle.report.proofs.write.clear_bytes.Statement.{statement}
 use Rattle.report.proofs.write.clear_bytes.Tie as tie
-use Rattle.report.proofs.write.clear_bytes.Reads as reads
-use Rattle.report.proofs.write.clear_bytes.Lts as lts
 
 abbrev Inv-loop : tie.InvT-loop
 Inv-loop buf₀ i₀ buf i = (i ≤ length buf) × (length buf ≡ length buf₀) × ZeroTo buf i
@@ -15,35 +15,28 @@ Inv-loop buf₀ i₀ buf i = (i ≤ length buf) × (length buf ≡ length buf₀
 abbrev μ-loop : tie.MeasureT-loop
 μ-loop buf₀ i₀ buf i = length buf₀ - i
 
--- src/write.rt:165:5
 loop-holds : tie.Need-loop-holds Inv-loop μ-loop
 loop-holds c = (omega arith, refl, λ k q. absurd (omega arith))
 
--- src/write.rt:166:9
 slice-write-buf : tie.Need-slice-write-buf Inv-loop μ-loop
 slice-write-buf c = search needs
 
--- src/write.rt:167:9
 add-i : tie.Need-add-i Inv-loop μ-loop
 add-i c = search needs
 
--- src/write.rt:165:5
 loop-less : tie.Need-loop-less Inv-loop μ-loop
 loop-less c = search needs
 
--- src/write.rt:165:5
 loop-again : tie.Need-loop-again Inv-loop μ-loop
-loop-again c = 
+loop-again c =
     let h = c .before .loop in
     (simp length-set (omega arith), simp length-set (h .inv .1), zero-one-more (h .buf) (h .i) (omega arith) (h .inv .2))
 
--- src/write.rt:161:1
 same-length : tie.Need-same-length Inv-loop μ-loop
 same-length c = search needs
 
--- src/write.rt:161:1
 returns : tie.Need-returns Inv-loop μ-loop
-returns c = 
+returns c =
     let h = c .before .loop in
     zero-whole (h .buf) _ (h .inv .1) (λ k q. h .inv .2 k (omega arith))
 

@@ -1,72 +1,59 @@
+-- `report::write::count_runs` meets its contract.
+-- Assumes nothing.
+use mathlib.Core.Bool.{false}
+use Prim.Native.Nat.{_-_}
+use native.Mathlib.Omega.{arith}
+use denote.Ref.{now}
+use borrow.Author.Needs.{needs}
 use Rattle.report.proofs.Laying.{Counting, count-begins, count-goes-on, count-ends}
 use Rattle.report.proofs.RunLaws.{closed-small}
-use mathlib.Core.Bool.{false}
-use Prim.Native.Nat.{ℕ, _+_, _-_, _*_, _≤_, _<_}
-use denote.Ref.{now}
-use native.Mathlib.Omega.{arith}
-use borrow.Author.Needs.{needs}
 use Rattle.report.proofs.write.count_runs.Statement.{statement}
 use Rattle.report.proofs.write.count_runs.Tie as tie
-use Rattle.report.proofs.write.count_runs.Reads as reads
-use Rattle.report.proofs.write.count_runs.Lts as lts
-use Rattle.report.proofs.write.closes.Reads as closes-reads
-use Rattle.visited.proofs.contains.Reads as contains-reads
 
 abbrev Inv-loop : tie.InvT-loop
-Inv-loop map from words n₀ last₀ j₀ n last j = Counting map from words n last j
+Inv-loop map words b n₀ last₀ j₀ n last j = Counting map b words n last j
 
 abbrev μ-loop : tie.MeasureT-loop
-μ-loop map from words n₀ last₀ j₀ n last j = words - j
+μ-loop map words b n₀ last₀ j₀ n last j = words - j
 
--- src/write.rt:112:5
 loop-holds : tie.Need-loop-holds Inv-loop μ-loop
-loop-holds c = let a = c .before .args in count-begins (now (a .map)) (a .from) (a .words)
+loop-holds c = let a = c .before .args in count-begins (now (a .map)) (a .from .0) (a .words)
 
--- src/write.rt:113:51
 add-n : tie.Need-add-n Inv-loop μ-loop
 add-n c = search needs
 
--- src/write.rt:113:13
 contains-requires : tie.Need-contains-requires Inv-loop μ-loop
 contains-requires c κs = search needs
 
--- src/write.rt:114:14
 closes-requires : tie.Need-closes-requires Inv-loop μ-loop
 closes-requires c κs = search needs
 
--- src/write.rt:114:9
 add-n-2 : tie.Need-add-n-2 Inv-loop μ-loop
 add-n-2 c = let h = c .before .before .before .loop in omega (arith, c .closes .ensures, closed-small (h .last) (c .before .contains .result))
 
--- src/write.rt:116:9
 add-j : tie.Need-add-j Inv-loop μ-loop
 add-j c = search needs
 
--- src/write.rt:112:5
 loop-less : tie.Need-loop-less Inv-loop μ-loop
 loop-less c = search needs
 
--- src/write.rt:112:5
 loop-again : tie.Need-loop-again Inv-loop μ-loop
-loop-again c = 
+loop-again c =
     let a = c .before .before .before .before .before .args in
     let h = c .before .before .before .loop in
-    count-goes-on (now (a .map)) (a .from) (a .words) (h .n) (h .last) (h .j) (c .before .contains .result) (c .closes .result) (h .inv) (omega arith) (c .before .contains .ensures) (c .closes .ensures)
+    count-goes-on (now (a .map)) (a .from .0) (a .words) (h .n) (h .last) (h .j) (c .before .contains .result) (c .closes .result) (h .inv) (omega arith) (c .before .contains .ensures) (c .closes .ensures)
 
--- src/write.rt:118:9
 closes-requires-2 : tie.Need-closes-requires-2 Inv-loop μ-loop
 closes-requires-2 c κs = search needs
 
--- src/write.rt:118:5
 add-result : tie.Need-add-result Inv-loop μ-loop
 add-result c = let h = c .before .before .loop in omega (arith, c .closes2 .ensures, closed-small (h .last) false)
 
--- src/write.rt:105:1
 returns : tie.Need-returns Inv-loop μ-loop
-returns c = 
+returns c =
     let a = c .before .before .before .before .args in
     let h = c .before .before .loop in
-    count-ends (now (a .map)) (a .from) (a .words) (h .n) (h .last) (h .j) (c .closes2 .result) (h .inv) (omega arith) (c .closes2 .ensures)
+    count-ends (now (a .map)) (a .from .0) (a .words) (h .n) (h .last) (h .j) (c .closes2 .result) (h .inv) (omega arith) (c .closes2 .ensures)
 
 pub count-runs-spec : {M : Type 1} → statement M
 count-runs-spec =

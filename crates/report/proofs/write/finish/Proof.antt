@@ -1,33 +1,27 @@
+-- `report::write::finish` meets its contract.
+-- Assumes nothing.
+use native.Mathlib.Omega.{arith}
+use denote.Ref.{now}
+use borrow.Author.Needs.{needs}
 use Rattle.report.proofs.Laying.{finished-none, finished-one}
 use Rattle.varint.proofs.GroupLaws.{groups-short}
-use denote.Ref.{now}
-use native.Mathlib.Omega.{arith}
-use borrow.Author.Needs.{needs}
 use Rattle.report.proofs.write.finish.Statement.{statement}
 use Rattle.report.proofs.write.finish.Tie as tie
-use Rattle.report.proofs.write.finish.Reads as reads
-use Rattle.report.proofs.write.finish.Lts as lts
-use Rattle.varint.proofs.put.Reads as put-reads
 
--- src/write.rt:70:9
 returns : tie.Need-returns
 returns c = let a = c .before .before .args in finished-none (now (a .buf)) (a .s) (c .if1 .taken)
 
--- src/write.rt:72:9
 put-requires : tie.Need-put-requires
 put-requires c κs = search needs
 
--- src/write.rt:73:5
 put-requires-2 : tie.Need-put-requires-2
 put-requires-2 c κs = let a = c .before .before .before .before .before .before .before .args in omega (arith, groups-short 4 (a .s .gap))
 
--- src/write.rt:62:1
 same-length : tie.Need-same-length
 same-length c = search needs
 
--- src/write.rt:62:1
 returns-2 : tie.Need-returns-2
-returns-2 c = 
+returns-2 c =
     let a = c .before .before .before .before .before .before .before .before .before .before .args in
     finished-one (now (a .buf)) (a .s) _ _ _ _ (c .before .before .before .before .before .before .before .before .if1 .left) (c .before .before .before .before .before .before .put .ensures) (c .before .before .put2 .ensures)
 

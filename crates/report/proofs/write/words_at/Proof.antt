@@ -1,48 +1,37 @@
+-- `report::write::words_at` meets its contract.
+-- Assumes nothing.
 use borrow.Author.Tests.{eq-eqb, ne-eqb}
-use native.Mathlib.Omega.{arith}
 use borrow.Author.Needs.{needs}
 use Rattle.report.proofs.write.words_at.Statement.{statement}
 use Rattle.report.proofs.write.words_at.Tie as tie
-use Rattle.report.proofs.write.words_at.Reads as reads
-use Rattle.report.proofs.write.words_at.Lts as lts
 
--- src/write.rt:24:11
 mul-if1 : tie.Need-mul-if1
 mul-if1 c = search needs
 
--- src/write.rt:24:11
 add-if1 : tie.Need-add-if1
 add-if1 c = search needs
 
--- src/write.rt:24:8
 mul-if1-2 : tie.Need-mul-if1-2
 mul-if1-2 c = search needs
 
--- src/write.rt:24:8
 shared-slice-read-if1 : tie.Need-shared-slice-read-if1
 shared-slice-read-if1 c = search needs
 
--- src/write.rt:25:19
 mul-result : tie.Need-mul-result
 mul-result c = search needs
 
--- src/write.rt:25:19
 add-result : tie.Need-add-result
 add-result c = search needs
 
--- src/write.rt:25:16
 mul-result-2 : tie.Need-mul-result-2
 mul-result-2 c = search needs
 
--- src/write.rt:25:16
 shared-slice-read-result : tie.Need-shared-slice-read-result
 shared-slice-read-result c = search needs
 
--- src/write.rt:25:9
 returns : tie.Need-returns
 returns c = rw (eq-eqb _ _ (c .before .if1 .taken))
 
--- src/write.rt:20:1
 returns-2 : tie.Need-returns-2
 returns-2 c = rw (ne-eqb _ _ (c .if1 .left))
 

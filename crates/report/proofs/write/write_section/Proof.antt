@@ -1,15 +1,17 @@
-use Rattle.report.proofs.Laying.{laid-append, laid-number}
+-- `report::write::write_section` meets its contract.
+-- Assumes nothing.
+use mathlib.Core.List.{List}
+use mathlib.Core.Path.{ap}
+use Prim.Native.Nat.{ℕ}
+use native.Mathlib.Omega.{arith}
+use denote.Ref.{now}
+use lib.ListN.{length, length-append}
+use borrow.Author.Needs.{needs}
 use Rattle.report.specs.Bytes.{runBytes}
 use Rattle.report.specs.Runs.{Run, runsOf, tab}
 use Rattle.visited.specs.Bits.{visitedAt}
 use Rattle.varint.specs.Groups.{varint}
-use lib.ListN.{length, length-append}
-use mathlib.Core.List.{List}
-use Prim.Native.Nat.{ℕ}
-use mathlib.Core.Path.{_≡_, refl, sym, ap, _∙_}
-use denote.Ref.{now}
-use native.Mathlib.Omega.{arith}
-use borrow.Author.Needs.{needs}
+use Rattle.report.proofs.Laying.{laid-append, laid-number}
 use Rattle.report.proofs.write.write_section.Statement.{statement}
 use Rattle.report.proofs.write.write_section.Tie as tie
 
@@ -20,9 +22,9 @@ put-requires : tie.Need-put-requires
 put-requires c κs = search needs
 
 write-runs-requires : tie.Need-write-runs-requires
-write-runs-requires c κs = 
+write-runs-requires c κs =
     let a = c .before .before .before .before .before .before .before .before .args in
-    let rs : List Run = runsOf (tab (visitedAt (now (a .map))) (a .from) (a .words)) in
+    let rs : List Run = runsOf (tab (visitedAt (now (a .map))) (a .from .0) (a .words)) in
     let n = ap (λ (k : ℕ). length (varint k)) (c .before .before .before .before .before .count-runs .ensures) in
     (omega arith, omega (arith, c .before .before .before .put .ensures .0, n, length-append (varint (length rs)) (runBytes rs), c .before .before .before .before .before .before .before .before .pre .1))
 
@@ -30,9 +32,9 @@ same-length : tie.Need-same-length
 same-length c = search needs
 
 returns : tie.Need-returns
-returns c = 
+returns c =
     let a = c .before .before .before .before .before .before .before .before .before .before .before .args in
-    let rs : List Run = runsOf (tab (visitedAt (now (a .map))) (a .from) (a .words)) in
+    let rs : List Run = runsOf (tab (visitedAt (now (a .map))) (a .from .0) (a .words)) in
     laid-append (now (a .buf)) _ _ (a .at) _ _ (varint (length rs)) (runBytes rs) (laid-number (now (a .buf)) _ (a .at) _ _ (length rs) (c .before .before .before .before .before .before .before .before .count-runs .ensures) (c .before .before .before .before .before .before .put .ensures)) (c .before .before .write-runs .ensures)
 
 pub write-section-spec : {M : Type 1} → statement M

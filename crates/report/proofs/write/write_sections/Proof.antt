@@ -1,8 +1,10 @@
-use Rattle.report.proofs.Laying.{LaidSoFar, sections-begin, section-room, section-laid, sections-end}
-use Prim.Native.Nat.{ℕ, _+_, _-_, _*_, _≤_, _<_}
-use denote.Ref.{now}
+-- `report::write::write_sections` meets its contract.
+-- Assumes nothing.
+use Prim.Native.Nat.{_-_}
 use native.Mathlib.Omega.{arith}
+use denote.Ref.{now}
 use borrow.Author.Needs.{needs}
+use Rattle.report.proofs.Laying.{LaidSoFar, sections-begin, section-room, section-laid, sections-end}
 use Rattle.report.proofs.write.write_sections.Statement.{statement}
 use Rattle.report.proofs.write.write_sections.Tie as tie
 
@@ -22,14 +24,14 @@ words-at-requires : tie.Need-words-at-requires Inv-loop μ-loop
 words-at-requires c κs = omega (arith, c .before .before .before .before .before .before .pre .0 .laid-out, c .before .before .section-count .ensures)
 
 write-section-requires : tie.Need-write-section-requires Inv-loop μ-loop
-write-section-requires c κs = 
+write-section-requires c κs =
     let a = c .before .before .before .before .before .before .before .before .args in
     let h = c .before .before .before .loop in
     let r = section-room (now (a .buf)) (h .buf) (now (a .im)) (now (a .map)) (a .at) (h .p) (h .b) (h .i) (h .inv) (omega (arith, c .before .before .before .before .section-count .ensures)) _ (c .before .words-at .ensures) in
     (omega (arith, r .0, c .before .before .before .before .before .before .before .before .pre .1), omega (arith, r .1, c .before .before .before .before .before .before .before .before .pre .2))
 
 add-b : tie.Need-add-b Inv-loop μ-loop
-add-b c = 
+add-b c =
     let a = c .before .before .before .before .before .before .before .before .before .before .before .args in
     let h = c .before .before .before .before .before .before .loop in
     let r = section-room (now (a .buf)) (h .buf) (now (a .im)) (now (a .map)) (a .at) (h .p) (h .b) (h .i) (h .inv) (omega (arith, c .before .before .before .before .before .before .before .section-count .ensures)) _ (c .before .before .before .before .words-at .ensures) in
@@ -42,7 +44,7 @@ loop-less : tie.Need-loop-less Inv-loop μ-loop
 loop-less c = search needs
 
 loop-again : tie.Need-loop-again Inv-loop μ-loop
-loop-again c = 
+loop-again c =
     let a = c .before .before .before .before .before .before .before .before .before .before .before .args in
     let h = c .before .before .before .before .before .before .loop in
     section-laid (now (a .buf)) (h .buf) (now (a .im)) (now (a .map)) (a .at) (h .p) (h .b) (h .i) (h .inv) (omega (arith, c .before .before .before .before .before .before .before .section-count .ensures)) _ _ _ (c .before .before .before .before .words-at .ensures) (c .before .before .write-section .ensures)
@@ -51,7 +53,7 @@ same-length : tie.Need-same-length Inv-loop μ-loop
 same-length c = search needs
 
 returns : tie.Need-returns Inv-loop μ-loop
-returns c = 
+returns c =
     let a = c .before .before .before .before .before .before .args in
     let h = c .before .loop in
     sections-end (now (a .buf)) (h .buf) (now (a .im)) (now (a .map)) (a .at) (h .p) (h .b) (h .i) (h .inv) (omega (arith, c .before .before .section-count .ensures))

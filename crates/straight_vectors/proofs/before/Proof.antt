@@ -1,0 +1,87 @@
+use native.Mathlib.Omega.{arith}
+use borrow.Author.Needs.{needs}
+use Rattle.straight_vectors.proofs.before.Statement.{statement}
+use Rattle.straight_vectors.proofs.before.Tie as tie
+use Rattle.straight_vectors.proofs.before.Reads as reads
+use Rattle.straight_vectors.proofs.before.Lts as lts
+use Rattle.straight_vectors.proofs.constant.Reads as constant-reads
+use Rattle.vm.proofs.state.new.Reads as new-reads
+use Rattle.words.proofs.bytes.four.Reads as four-reads
+
+abbrev Inv-loop : tie.InvT-loop
+Inv-loop s at t₀ r₀ t r = ?
+
+abbrev μ-loop : tie.MeasureT-loop
+μ-loop s at t₀ r₀ t r = ?
+
+-- src/main.rt:41:17
+new-requires : tie.Need-new-requires Inv-loop μ-loop
+new-requires c κs = search needs
+
+-- src/main.rt:43:5
+loop-holds : tie.Need-loop-holds Inv-loop μ-loop
+loop-holds c = search needs
+
+-- src/main.rt:44:51
+add-four : tie.Need-add-four Inv-loop μ-loop
+add-four c = search needs
+
+-- src/main.rt:44:60
+mul-four : tie.Need-mul-four Inv-loop μ-loop
+mul-four c = search needs
+
+-- src/main.rt:44:51
+add-four-2 : tie.Need-add-four-2 Inv-loop μ-loop
+add-four-2 c = search needs
+
+-- src/main.rt:44:29
+four-requires : tie.Need-four-requires Inv-loop μ-loop
+four-requires c κs = search needs
+
+-- src/main.rt:44:20
+constant-requires : tie.Need-constant-requires Inv-loop μ-loop
+constant-requires c κs = search needs
+
+-- src/main.rt:44:9
+mul-t12 : tie.Need-mul-t12 Inv-loop μ-loop
+mul-t12 c = search needs
+
+-- src/main.rt:44:9
+element-set-from-t : tie.Need-element-set-from-t Inv-loop μ-loop
+element-set-from-t c = search needs
+
+-- src/main.rt:45:9
+add-r : tie.Need-add-r Inv-loop μ-loop
+add-r c = search needs
+
+-- src/main.rt:43:5
+loop-less : tie.Need-loop-less Inv-loop μ-loop
+loop-less c = search needs
+
+-- src/main.rt:43:5
+loop-again : tie.Need-loop-again Inv-loop μ-loop
+loop-again c = search needs
+
+-- src/main.rt:38:1
+returns : tie.Need-returns Inv-loop μ-loop
+returns c = search needs
+
+pub before-spec : {M : Type 1} → statement M
+before-spec =
+    tie.close
+    (tie.spec
+    Inv-loop
+    μ-loop
+    new-requires
+    loop-holds
+    add-four
+    mul-four
+    add-four-2
+    four-requires
+    constant-requires
+    mul-t12
+    element-set-from-t
+    add-r
+    loop-less
+    loop-again
+    returns)
