@@ -228,3 +228,22 @@ pub state-read : (ws : List ℕ) (at : ℕ) (s : VM) (lr ctr : Held)
     → record { gpr = s .gpr; cr = s .cr; lr = lr; ctr = ctr } ≡ stateAt ws at
 unfolding stateAt
 state-read ws at s lr ctr a b c d = rw (a, b, c, d)
+
+-- a record of which nothing is known
+pub blank-of : (g : Gpr) → g .value ≡ Unknown → g .«hi_addr» ≡ Nowhere → g .«lo_addr» ≡ Nowhere → g ≡ blank
+blank-of g a b c =
+    ap (λ (v : GprValue). mk v (g .«hi_addr») (g .«lo_addr»)) a
+    ∙ ap (λ (m : MaybeAddress). mk Unknown m (g .«lo_addr»)) b
+    ∙ ap (λ (m : MaybeAddress). mk Unknown Nowhere m) c
+  where
+    mk : GprValue → MaybeAddress → MaybeAddress → Gpr
+    mk v h l = record { value = v; «hi_addr» = h; «lo_addr» = l }
+
+pub unset-of : (r : Cr) → r .left ≡ Unknown → r .right ≡ Unknown → r .signed ≡ false → r ≡ noCr
+unset-of r a b c =
+    ap (λ (v : GprValue). mk v (r .right) (r .signed)) a
+    ∙ ap (λ (v : GprValue). mk Unknown v (r .signed)) b
+    ∙ ap (λ (t : Bool). mk Unknown Unknown t) c
+  where
+    mk : GprValue → GprValue → Bool → Cr
+    mk v w t = record { left = v; right = w; signed = t }

@@ -3,7 +3,9 @@
 ghost use mathlib.Core.Path.{_≡_};
 ghost use mathlib.Core.List.{[], _∷_};
 ghost use Prim.Native.Nat.{_+_, _<_, _≤_};
-ghost use lib.ListN.{length};
+ghost use mathlib.Core.Bool.{true};
+ghost use lib.ListN.{length, replicate};
+ghost use Rattle.vm.specs.Registers.{blank, noCr};
 ghost use Rattle.slot.specs.Put.{put};
 ghost use Rattle.slot.specs.Values.{markOf};
 ghost use Rattle.slot.specs.Layout.{registerWords, compareWords, endsWords, registerAt, compareAt, heldAt};
@@ -13,9 +15,12 @@ use crate::value::bit_of;
 use crate::value::maybe_of;
 use crate::value::numbers_of;
 use crate::value::value_of;
+use places::MaybeAddress;
 use vm::Cr;
 use vm::Gpr;
+use vm::GprValue;
 use vm::Held;
+use vm::register::set_direct;
 
 // Four words from a number on.
 fn store4(words: &mut [u32], at: usize, w: u32, x: u32, y: u32, z: u32)
@@ -28,7 +33,64 @@ fn store4(words: &mut [u32], at: usize, w: u32, x: u32, y: u32, z: u32)
     words[at + 3] = z;
 }
 
+// Nothing is known of the register: the common case.
+fn is_blank(g: Gpr) -> bool
+    ensures { λ r. ⌜ (r ≡ true → g ≡ blank) ⌝ }
+{
+    let value = g.value;
+    let hi = g.hi_addr;
+    let lo = g.lo_addr;
+    match value {
+        GprValue::Unknown => match hi {
+            MaybeAddress::Nowhere => match lo {
+                MaybeAddress::Nowhere => true,
+                MaybeAddress::At(_) => false,
+            },
+            MaybeAddress::At(_) => false,
+        },
+        _ => false,
+    }
+}
+
+// Nothing was compared.
+fn is_unset(c: Cr) -> bool
+    ensures { λ r. ⌜ (r ≡ true → c ≡ noCr) ⌝ }
+{
+    let left = c.left;
+    let right = c.right;
+    if c.signed {
+        return false;
+    }
+    match left {
+        GprValue::Unknown => match right {
+            GprValue::Unknown => true,
+            _ => false,
+        },
+        _ => false,
+    }
+}
+
+// The words of a record of which nothing is known.
+fn put_zeros(words: &mut [u32], at: usize)
+    requires { ⌜ at + 8 ≤ length (now words) ⌝ }
+    ensures { λ r. ⌜ now (words .exit) ≡ put (now (words .entry)) at (replicate 8 0) ⌝ }
+{
+    store4(words, at, 0, 0, 0, 0);
+    store4(words, at + 4, 0, 0, 0, 0);
+}
+
 pub fn put_register(words: &mut [u32], at: usize, g: Gpr)
+    requires { ⌜ at + 8 ≤ length (now words) ⌝ }
+    ensures { λ r. ⌜ (now (words .exit) ≡ put (now (words .entry)) at (registerWords g)) × (markOf (g .value) < 256) ⌝ }
+{
+    if is_blank(g) {
+        put_zeros(words, at);
+    } else {
+        put_known(words, at, g);
+    }
+}
+
+fn put_known(words: &mut [u32], at: usize, g: Gpr)
     requires { ⌜ at + 8 ≤ length (now words) ⌝ }
     ensures { λ r. ⌜ (now (words .exit) ≡ put (now (words .entry)) at (registerWords g)) × (markOf (g .value) < 256) ⌝ }
 {
@@ -54,6 +116,9 @@ pub fn register_at(words: &[u32], at: usize) -> Gpr
     ensures { λ r. ⌜ r ≡ registerAt (now (words .entry)) at ⌝ }
 {
     let head = words[at];
+    if head == 0 {
+        return set_direct(GprValue::Unknown);
+    }
     let value = value_of(head % 16, words[at + 1], words[at + 2], words[at + 3]);
     let hi = maybe_of(head / 16 % 2, words[at + 4], words[at + 5]);
     let lo = maybe_of(head / 32 % 2, words[at + 6], words[at + 7]);
@@ -65,6 +130,17 @@ pub fn register_at(words: &[u32], at: usize) -> Gpr
 }
 
 pub fn put_compare(words: &mut [u32], at: usize, c: Cr)
+    requires { ⌜ at + 8 ≤ length (now words) ⌝ }
+    ensures { λ r. ⌜ (now (words .exit) ≡ put (now (words .entry)) at (compareWords c)) × FitsCr c ⌝ }
+{
+    if is_unset(c) {
+        put_zeros(words, at);
+    } else {
+        put_compared(words, at, c);
+    }
+}
+
+fn put_compared(words: &mut [u32], at: usize, c: Cr)
     requires { ⌜ at + 8 ≤ length (now words) ⌝ }
     ensures { λ r. ⌜ (now (words .exit) ≡ put (now (words .entry)) at (compareWords c)) × FitsCr c ⌝ }
 {
@@ -81,6 +157,15 @@ pub fn compare_at(words: &[u32], at: usize) -> Cr
     ensures { λ r. ⌜ r ≡ compareAt (now (words .entry)) at ⌝ }
 {
     let head = words[at];
+    if head == 0 {
+        if words[at + 4] == 0 {
+            return Cr {
+                left: GprValue::Unknown,
+                right: GprValue::Unknown,
+                signed: false,
+            };
+        }
+    }
     let left = value_of(head % 16, words[at + 1], words[at + 2], words[at + 3]);
     let right = value_of(words[at + 4], words[at + 5], words[at + 6], words[at + 7]);
     Cr {

@@ -16,6 +16,7 @@ use Rattle.slot.proofs.SameLaws.{Agree}
 use Rattle.slot.proofs.SlotLaws.{slot-length, place-back, state-back, slot-back}
 use Rattle.slot.specs.Fits.{Fits}
 use Rattle.slot.specs.Layout.{slotSize, slotWords, placeIn, stateIn, isSlot}
+use Rattle.slot.specs.Put.{put}
 use Rattle.vm.specs.declared.VM.{VM}
 use Rattle.stack.specs.Push.{nextSlot, nextHigh, claimed, appended}
 use Rattle.stack.specs.Stack.{Entry, room, slotAt, orderAt, entryAt, heldAt, entries, keyAt, slotKey, highOf, sortedOf, Stack}
@@ -87,7 +88,7 @@ module _ (ws : List ℕ) (n : ℕ) (st : Stack ws n) (free : n < room (length ws
     vs = appended ws n p s
 
     -- the slot lies inside the words
-    pub slot-fits : slotAt ws k + 330 ≤ length ws
+    pub slot-fits : slotAt ws k + slotSize ≤ length ws
     slot-fits = omega (arith, room-fits (length ws) n free, next-low)
 
     claim-length : length c ≡ length ws
@@ -98,6 +99,10 @@ module _ (ws : List ℕ) (n : ℕ) (st : Stack ws n) (free : n < room (length ws
 
     pub append-length : length vs ≡ length ws
     append-length = put-length c (slotAt ws k) (slotWords p s) slot-in ∙ claim-length
+
+    -- a claimed slot that is written
+    pub append-now : {w v : List ℕ} {at : ℕ} → v ≡ put w at (slotWords p s) → w ≡ c → at ≡ slotAt ws k → v ≡ vs
+    append-now {at = i} e f g = e ∙ ap (λ (u : List ℕ). put u i (slotWords p s)) f ∙ ap (λ (j : ℕ). put c j (slotWords p s)) g
 
     below-slots : (i : ℕ) → i < 2 + room (length ws) → getD vs i 0 ≡ getD c i 0
     below-slots i h = put-low c (slotAt ws k) (slotWords p s) i (omega (arith, slot-in)) (omega arith)

@@ -6,6 +6,5 @@ pub mod SlotsKept
 pub mod AppendLaws
 pub mod ArrangeLaws
 pub mod ValidLaws
-
 pub mod StableLaws
 pub mod Stacks

@@ -1,25 +1,25 @@
 -- What pushing and popping mean, over lists of places with their states, the next to pop last.
 -- Assumes a stack (`Stack`), which every push and pop leaves; the test of `is_stack` says yes to exactly that.
-use mathlib.Core.Bool.{Bool, true, false, _&&_, _||_}
+use mathlib.Core.Bool.{Bool, true, false}
 use mathlib.Core.List.{List, [], _∷_, _++_}
 use mathlib.Core.Path.{_≡_, refl, sym, ap, _∙_, subst}
-use Prim.Native.Nat.{ℕ, zero, suc, _+_, _*_, _≤_, _<_, min}
+use Prim.Native.Nat.{ℕ, _+_, _≤_, _<_}
 use native.Mathlib.Decide.{decLt, ℕ-discrete}
 use native.Mathlib.Omega.{arith}
-use lib.Dec.{ltb, eqb}
+use lib.Dec.{ltb}
 use lib.ListN.{length, getD}
-use borrow.Author.Tests.{ltb-true, lt-ltb, le-ltb, eq-eqb, ne-eqb}
-use Rattle.words.specs.Choice.{pick}
+use borrow.Author.Tests.{lt-ltb, le-ltb, eq-eqb, ne-eqb}
 use Rattle.places.specs.Places.{before}
 use Rattle.places.specs.declared.SectionAddress.{SectionAddress}
-use Rattle.vm.specs.declared.VM.{VM}
-use Rattle.slot.specs.Put.{listed}
 use Rattle.slot.proofs.PutLaws.{listed-one}
-use Rattle.stack.specs.declared.Pushed.{Pushed}
-use Rattle.stack.specs.Sort.{insertBy, insertAll, sortBy}
-use Rattle.stack.specs.Stack.{Entry, room, heldAt, entries, entryKey, placeKey, highOf, sortedOf, Stack}
+use Rattle.slot.specs.Put.{listed}
+use Rattle.vm.specs.declared.VM.{VM}
+use Rattle.words.specs.Choice.{pick}
 use Rattle.stack.specs.Push.{appended, pushedWords, Pushes}
-use Rattle.stack.proofs.AppendLaws.{high-word, append-stack, append-entries, append-length}
+use Rattle.stack.specs.Sort.{insertBy, sortBy}
+use Rattle.stack.specs.Stack.{Entry, room, heldAt, entries, entryKey, placeKey, highOf, Stack}
+use Rattle.stack.specs.declared.Pushed.{Pushed}
+use Rattle.stack.proofs.AppendLaws.{high-word, append-stack, append-entries}
 use Rattle.stack.proofs.ArrangeLaws.{sorted-stack, sorted-entries}
 use Rattle.stack.proofs.SortLaws.{Sorted, sort-kept, insertAll-snoc}
 use Rattle.stack.proofs.ValidLaws.{empty-stack}

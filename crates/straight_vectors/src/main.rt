@@ -8,6 +8,7 @@ use libc::STDOUT_FILENO;
 use places::MaybeAddress;
 use places::SectionAddress;
 use step::StepResult;
+use step::Stepped;
 use vm::Gpr;
 use vm::GprValue;
 use vm::VM;
@@ -74,6 +75,15 @@ fn goes_on(r: StepResult) -> bool {
         StepResult::Continue => true,
         _ => false,
     }
+}
+
+// The record's word stepped in an image whose data is that word.
+fn step_in_image(s: &[u8], at: usize, place: SectionAddress) -> Stepped
+    requires { ⌜ at + 264 ≤ length (now s) ⌝ }
+{
+    let from = at + 4;
+    let to = at + 8;
+    step::step(&IMAGE, &s[from..to], place, words::bytes::four(s, from), before(s, at))
 }
 
 fn is_alike(s: &[u8], at: usize) -> bool

@@ -5,7 +5,7 @@ use lib.ListN.{replicate}
 use borrow.Author.Needs.{needs}
 use Rattle.places.specs.declared.SectionAddress.{SectionAddress}
 use Rattle.vm.specs.declared.VM.{VM}
-use Rattle.slot.specs.Layout.{slotWords, placeIn}
+use Rattle.slot.specs.Layout.{slotSize, slotWords, placeIn}
 use Rattle.slot.specs.Put.{matches}
 use Rattle.slot.proofs.PutLaws.{put-whole}
 use Rattle.slot.proofs.SlotLaws.{slot-length}
@@ -38,7 +38,7 @@ returns c =
     let p : SectionAddress = t .before .place-in .result in
     let s : VM = t .state-in .result in
     c .same .ensures
-    ∙ ap (matches (a .words .now) (a .at)) (m .put-slot .ensures .0 ∙ put-whole (replicate 330 0) (slotWords p s) (sym (slot-length p s)))
+    ∙ ap (matches (a .words .now) (a .at)) (m .put-slot .ensures .0 ∙ put-whole (replicate slotSize 0) (slotWords p s) (sym (slot-length p s)))
     ∙ ap (λ (q : SectionAddress). matches (a .words .now) (a .at) (slotWords q s)) (t .before .place-in .ensures)
     ∙ ap (λ (u : VM). matches (a .words .now) (a .at) (slotWords (placeIn (a .words .now) (a .at)) u)) (t .state-in .ensures)
 

@@ -8,11 +8,9 @@ use native.Mathlib.Omega.{arith}
 use lib.ListN.{length}
 use borrow.Author.Needs.{needs}
 use borrow.Author.Tests.{lt-ltb, le-ltb}
-use Rattle.slot.specs.Layout.{slotWords}
-use Rattle.slot.specs.Put.{put}
-use Rattle.stack.specs.Push.{claimed, appended, sortedWords, pushedWords}
+use Rattle.stack.specs.Push.{appended, sortedWords, pushedWords}
 use Rattle.stack.specs.Stack.{Stack, room}
-use Rattle.stack.proofs.AppendLaws.{slot-fits, append-stack}
+use Rattle.stack.proofs.AppendLaws.{slot-fits, append-now, append-stack}
 use Rattle.stack.proofs.RoomLaws.{room-small}
 use Rattle.stack.proofs.push.Statement.{statement}
 use Rattle.stack.proofs.push.Tie as tie
@@ -38,7 +36,6 @@ put-slot-requires c κs =
     let ws = a .words .now in
     let free : a .count < room (length ws) = omega (arith, c .before .before .before .before .before .if1 .left, c .before .before .before .before .before .before .room-of .ensures) in
     let q = c .before .before .before in
-    let s = q in
     omega (arith, q .claim .ensures .0, q .claim .kept .0, slot-fits ws (a .count) (b .pre) free (a .p) (a .s))
 
 add-sort : tie.Need-add-sort
@@ -53,9 +50,7 @@ sort-requires c κs =
     let q = c .before .before .before .before .before .before .before .before in
     let s = c .before .before .before .before in
     let now : s .put-slot .last .0 ≡ appended ws (a .count) (a .p) (a .s) =
-    s .put-slot .ensures .0
-    ∙ ap (λ (w : List ℕ). put w (q .claim .result) (slotWords (a .p) (a .s))) (q .claim .ensures .1)
-    ∙ ap (λ (i : ℕ). put (claimed ws (a .count)) i (slotWords (a .p) (a .s))) (q .claim .ensures .0) in
+    append-now ws (a .count) (b .pre) free (a .p) (a .s) (s .put-slot .ensures .0) (q .claim .ensures .1) (q .claim .ensures .0) in
     (subst (λ (w : List ℕ). Stack w (a .count + 1)) (sym now) (append-stack ws (a .count) (b .pre) free (a .p) (a .s) (s .put-slot .ensures .1)), omega arith)
 
 add-t18 : tie.Need-add-t18
@@ -73,9 +68,7 @@ returns-2 c =
     let q = c .before .before .before .before .before .before .before .before .before .before .before in
     let s = c .before .before .before .before .before .before .before in
     let now : s .put-slot .last .0 ≡ appended ws (a .count) (a .p) (a .s) =
-    s .put-slot .ensures .0
-    ∙ ap (λ (w : List ℕ). put w (q .claim .result) (slotWords (a .p) (a .s))) (q .claim .ensures .1)
-    ∙ ap (λ (i : ℕ). put (claimed ws (a .count)) i (slotWords (a .p) (a .s))) (q .claim .ensures .0) in
+    append-now ws (a .count) (b .pre) free (a .p) (a .s) (s .put-slot .ensures .0) (q .claim .ensures .1) (q .claim .ensures .0) in
     record {
       taken = sym (lt-ltb (a .count) (room (length ws)) free);
       count = refl;
@@ -98,9 +91,7 @@ returns-3 c =
     let q = c .before .before .before .before .before .before .before in
     let s = c .before .before .before in
     let now : s .put-slot .last .0 ≡ appended ws (a .count) (a .p) (a .s) =
-    s .put-slot .ensures .0
-    ∙ ap (λ (w : List ℕ). put w (q .claim .result) (slotWords (a .p) (a .s))) (q .claim .ensures .1)
-    ∙ ap (λ (i : ℕ). put (claimed ws (a .count)) i (slotWords (a .p) (a .s))) (q .claim .ensures .0) in
+    append-now ws (a .count) (b .pre) free (a .p) (a .s) (s .put-slot .ensures .0) (q .claim .ensures .1) (q .claim .ensures .0) in
     record {
       taken = sym (lt-ltb (a .count) (room (length ws)) free);
       count = refl;

@@ -1,3 +1,7 @@
+use Rattle.vm.specs.declared.VM.{VM}
+use mathlib.Core.Path.{_≡_, ap}
+use lib.ListN.{length}
+use Prim.Native.Nat.{_≤_, _-_}
 use native.Mathlib.Omega.{arith}
 use borrow.Author.Needs.{needs}
 use Rattle.straight_vectors.proofs.before.Statement.{statement}
@@ -9,10 +13,10 @@ use Rattle.vm.proofs.state.new.Reads as new-reads
 use Rattle.words.proofs.bytes.four.Reads as four-reads
 
 abbrev Inv-loop : tie.InvT-loop
-Inv-loop s at t₀ r₀ t r = ?
+Inv-loop s at t₀ r₀ t r = (r ≤ 32) × (length (t .gpr) ≡ 32)
 
 abbrev μ-loop : tie.MeasureT-loop
-μ-loop s at t₀ r₀ t r = ?
+μ-loop s at t₀ r₀ t r = 32 - r
 
 -- src/main.rt:41:17
 new-requires : tie.Need-new-requires Inv-loop μ-loop
@@ -20,7 +24,7 @@ new-requires c κs = search needs
 
 -- src/main.rt:43:5
 loop-holds : tie.Need-loop-holds Inv-loop μ-loop
-loop-holds c = search needs
+loop-holds c = (search needs, ap (λ (s : VM). length (s .gpr)) (c .new .ensures))
 
 -- src/main.rt:44:51
 add-four : tie.Need-add-four Inv-loop μ-loop

@@ -1,3 +1,4 @@
+use Prim.Native.Nat.{_≤_, _-_}
 use native.Mathlib.Omega.{arith}
 use borrow.Author.Needs.{needs}
 use Rattle.straight_vectors.proofs.is_after.Statement.{statement}
@@ -8,10 +9,10 @@ use Rattle.straight_vectors.proofs.holds.Reads as holds-reads
 use Rattle.words.proofs.bytes.four.Reads as four-reads
 
 abbrev Inv-loop : tie.InvT-loop
-Inv-loop s at t r₀ r = ?
+Inv-loop s at t r₀ r = r ≤ 32
 
 abbrev μ-loop : tie.MeasureT-loop
-μ-loop s at t r₀ r = ?
+μ-loop s at t r₀ r = 32 - r
 
 -- src/main.rt:63:5
 loop-holds : tie.Need-loop-holds Inv-loop μ-loop

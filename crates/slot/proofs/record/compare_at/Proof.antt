@@ -1,9 +1,10 @@
--- The parts are read one by one; the right value begins four words on.
+-- Two words of 0 are no compare; else the parts are read one by one, the right value four words on.
 -- Assumes nothing.
 use mathlib.Core.Path.{_≡_}
 use Prim.Native.Nat.{_+_}
 use native.Mathlib.Omega.{arith}
 use borrow.Author.Needs.{needs}
+use Rattle.slot.specs.Values.{valueOf}
 use Rattle.slot.proofs.record.compare_at.Statement.{statement}
 use Rattle.slot.proofs.record.compare_at.Tie as tie
 
@@ -12,6 +13,19 @@ mul-head c = search needs
 
 shared-slice-read-head : tie.Need-shared-slice-read-head
 shared-slice-read-head c = search needs
+
+add-if2 : tie.Need-add-if2
+add-if2 c = search needs
+
+mul-if2 : tie.Need-mul-if2
+mul-if2 c = search needs
+
+shared-slice-read-if2 : tie.Need-shared-slice-read-if2
+shared-slice-read-if2 c = search needs
+
+returns : tie.Need-returns
+unfolding valueOf
+returns c = rw (c .before .before .if1 .taken, c .if2 .taken)
 
 add-value-of : tie.Need-add-value-of
 add-value-of c = search needs
@@ -82,14 +96,13 @@ shared-slice-read-value-of-7 c = search needs
 value-of-requires-2 : tie.Need-value-of-requires-2
 value-of-requires-2 c κs = search needs
 
-returns : tie.Need-returns
-returns c =
-    let l = c .before .before .before .before .before in
-    let a = l .before .before .before .before .before .before .args in
+returns-2 : tie.Need-returns-2
+returns-2 c =
+    let a = c .before .before .before .before .before .before .before .before .before .before .before .before .args in
     let five : a .at + 4 + 1 ≡ a .at + 5 = omega arith in
     let six : a .at + 4 + 2 ≡ a .at + 6 = omega arith in
     let seven : a .at + 4 + 3 ≡ a .at + 7 = omega arith in
-    rw (c .value-of2 .ensures, l .value-of .ensures, five, six, seven)
+    rw (c .value-of2 .ensures, c .before .before .before .before .before .value-of .ensures, five, six, seven)
 
 pub compare-at-spec : {M : Type 1} → statement M
 compare-at-spec =
@@ -97,6 +110,10 @@ compare-at-spec =
     (tie.spec
     mul-head
     shared-slice-read-head
+    add-if2
+    mul-if2
+    shared-slice-read-if2
+    returns
     add-value-of
     mul-value-of
     shared-slice-read-value-of
@@ -120,4 +137,4 @@ compare-at-spec =
     mul-value-of-7
     shared-slice-read-value-of-7
     value-of-requires-2
-    returns)
+    returns-2)

@@ -1,64 +1,48 @@
--- Two puts of four words, one behind the other.
+-- A record of no compare is written as zeros.
 -- Assumes nothing.
-use Prim.Native.Nat.{_+_}
+use mathlib.Core.Path.{_≡_, sym, ap, _∙_, subst}
 use native.Mathlib.Omega.{arith}
 use borrow.Author.Needs.{needs}
-use Rattle.slot.specs.Layout.{quad, compareHead, valueWords}
-use Rattle.slot.specs.Values.{numbersOf}
-use Rattle.slot.proofs.PutLaws.{put-put}
+use Rattle.vm.specs.Registers.{noCr}
+use Rattle.vm.specs.declared.Cr.{Cr}
+use Rattle.slot.specs.Fits.{FitsCr}
+use Rattle.slot.specs.Layout.{compareWords}
+use Rattle.slot.specs.Put.{put}
 use Rattle.slot.proofs.record.put_compare.Statement.{statement}
 use Rattle.slot.proofs.record.put_compare.Tie as tie
 
-numbers-of-requires : tie.Need-numbers-of-requires
-numbers-of-requires c κs = search needs
+is-unset-requires : tie.Need-is-unset-requires
+is-unset-requires c κs = search needs
 
-numbers-of-requires-2 : tie.Need-numbers-of-requires-2
-numbers-of-requires-2 c κs = search needs
+put-zeros-requires : tie.Need-put-zeros-requires
+put-zeros-requires c κs = search needs
 
-bit-of-requires : tie.Need-bit-of-requires
-bit-of-requires c κs = search needs
-
-mul-store4 : tie.Need-mul-store4
-mul-store4 c = search needs
-
-add-store4 : tie.Need-add-store4
-add-store4 c = search needs
-
-store4-requires : tie.Need-store4-requires
-store4-requires c κs = search needs
-
-add-store4-2 : tie.Need-add-store4-2
-add-store4-2 c = search needs
-
-store4-requires-2 : tie.Need-store4-requires-2
-store4-requires-2 c κs = search needs
+put-compared-requires : tie.Need-put-compared-requires
+put-compared-requires c κs = search needs
 
 same-length : tie.Need-same-length
 same-length c = search needs
 
 returns : tie.Need-returns
 returns c =
-    let s2 = c .before .before in
-    let s1 = s2 .before .before .before .before in
-    let b = s1 .before .before in
-    let n = b .before .before in
-    let a = n .before .before .before .args in (
-      rw (s2 .store42 .ensures, s1 .store4 .ensures, b .bit-of .ensures .0, n .numbers-of2 .ensures .numbers, n .before .numbers-of .ensures .numbers)
-          (put-put (a .words .now) (a .at) (a .at + 4) (quad (compareHead (a .c)) (numbersOf (a .c .left))) (valueWords (a .c .right)) (omega arith) (omega arith)),
-      record { left = n .before .numbers-of .ensures .mark; right = n .numbers-of2 .ensures .mark },
-    )
+    let a = c .before .before .before .before .before .before .before .args in
+    let e : a .c ≡ noCr = c .before .before .before .before .before .is-unset .ensures (c .before .before .before .before .if1 .taken) in
+    (c .before .before .put-zeros .ensures ∙ ap (λ (h : Cr). put (a .words .now) (a .at) (compareWords h)) (sym e), subst (λ (h : Cr). FitsCr h) (sym e) (record { left = omega arith; right = omega arith }))
+
+same-length-2 : tie.Need-same-length-2
+same-length-2 c = search needs
+
+returns-2 : tie.Need-returns-2
+returns-2 c = search needs
 
 pub put-compare-spec : {M : Type 1} → statement M
 put-compare-spec =
     tie.close
     (tie.spec
-    numbers-of-requires
-    numbers-of-requires-2
-    bit-of-requires
-    mul-store4
-    add-store4
-    store4-requires
-    add-store4-2
-    store4-requires-2
+    is-unset-requires
+    put-zeros-requires
+    put-compared-requires
     same-length
-    returns)
+    returns
+    same-length-2
+    returns-2)

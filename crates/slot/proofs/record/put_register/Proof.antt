@@ -1,71 +1,49 @@
--- Two puts of four words, one behind the other.
+-- A blank record is written as zeros.
 -- Assumes nothing.
-use Prim.Native.Nat.{_+_}
+use mathlib.Core.Path.{_≡_, sym, ap, _∙_, subst}
+use Prim.Native.Nat.{_<_}
 use native.Mathlib.Omega.{arith}
 use borrow.Author.Needs.{needs}
-use Rattle.slot.specs.Layout.{quad, pair, registerHead}
-use Rattle.slot.specs.Values.{numbersOf, addressNumbers}
-use Rattle.slot.proofs.PutLaws.{put-put}
+use Rattle.vm.specs.Registers.{blank}
+use Rattle.vm.specs.declared.Gpr.{Gpr}
+use Rattle.slot.specs.Layout.{registerWords}
+use Rattle.slot.specs.Put.{put}
+use Rattle.slot.specs.Values.{markOf}
 use Rattle.slot.proofs.record.put_register.Statement.{statement}
 use Rattle.slot.proofs.record.put_register.Tie as tie
 
-numbers-of-requires : tie.Need-numbers-of-requires
-numbers-of-requires c κs = search needs
+is-blank-requires : tie.Need-is-blank-requires
+is-blank-requires c κs = search needs
 
-address-numbers-requires : tie.Need-address-numbers-requires
-address-numbers-requires c κs = search needs
+put-zeros-requires : tie.Need-put-zeros-requires
+put-zeros-requires c κs = search needs
 
-address-numbers-requires-2 : tie.Need-address-numbers-requires-2
-address-numbers-requires-2 c κs = search needs
-
-mul-store4 : tie.Need-mul-store4
-mul-store4 c = search needs
-
-add-store4 : tie.Need-add-store4
-add-store4 c = search needs
-
-mul-store4-2 : tie.Need-mul-store4-2
-mul-store4-2 c = search needs
-
-add-store4-2 : tie.Need-add-store4-2
-add-store4-2 c = search needs
-
-store4-requires : tie.Need-store4-requires
-store4-requires c κs = search needs
-
-add-store4-3 : tie.Need-add-store4-3
-add-store4-3 c = search needs
-
-store4-requires-2 : tie.Need-store4-requires-2
-store4-requires-2 c κs = search needs
+put-known-requires : tie.Need-put-known-requires
+put-known-requires c κs = search needs
 
 same-length : tie.Need-same-length
 same-length c = search needs
 
 returns : tie.Need-returns
 returns c =
-    let s2 = c .before .before in
-    let s1 = s2 .before .before .before .before in
-    let n = s1 .before .before .before .before .before in
-    let a = n .before .before .before .before .args in (
-      rw (s2 .store42 .ensures, s1 .store4 .ensures, n .address-numbers2 .ensures .0, n .before .address-numbers .ensures .0, n .before .before .numbers-of .ensures .numbers)
-          (put-put (a .words .now) (a .at) (a .at + 4) (quad (registerHead (a .g)) (numbersOf (a .g .value))) (pair (addressNumbers (a .g .«hi_addr»)) (addressNumbers (a .g .«lo_addr»))) (omega arith) (omega arith)),
-      n .before .before .numbers-of .ensures .mark,
-    )
+    let a = c .before .before .before .before .before .before .before .args in
+    let e : a .g ≡ blank = c .before .before .before .before .before .is-blank .ensures (c .before .before .before .before .if1 .taken) in
+    (c .before .before .put-zeros .ensures ∙ ap (λ (h : Gpr). put (a .words .now) (a .at) (registerWords h)) (sym e), subst (λ (h : Gpr). markOf (h .value) < 256) (sym e) (omega arith))
+
+same-length-2 : tie.Need-same-length-2
+same-length-2 c = search needs
+
+returns-2 : tie.Need-returns-2
+returns-2 c = search needs
 
 pub put-register-spec : {M : Type 1} → statement M
 put-register-spec =
     tie.close
     (tie.spec
-    numbers-of-requires
-    address-numbers-requires
-    address-numbers-requires-2
-    mul-store4
-    add-store4
-    mul-store4-2
-    add-store4-2
-    store4-requires
-    add-store4-3
-    store4-requires-2
+    is-blank-requires
+    put-zeros-requires
+    put-known-requires
     same-length
-    returns)
+    returns
+    same-length-2
+    returns-2)

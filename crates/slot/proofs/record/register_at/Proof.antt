@@ -1,6 +1,7 @@
--- The parts are read one by one.
+-- A first word of 0 is a blank record; else the parts are read one by one.
 -- Assumes nothing.
 use borrow.Author.Needs.{needs}
+use Rattle.slot.specs.Values.{valueOf}
 use Rattle.slot.proofs.record.register_at.Statement.{statement}
 use Rattle.slot.proofs.record.register_at.Tie as tie
 
@@ -9,6 +10,13 @@ mul-head c = search needs
 
 shared-slice-read-head : tie.Need-shared-slice-read-head
 shared-slice-read-head c = search needs
+
+set-direct-requires : tie.Need-set-direct-requires
+set-direct-requires c κs = search needs
+
+returns : tie.Need-returns
+unfolding valueOf
+returns c = rw (c .set-direct .ensures, c .before .if1 .taken)
 
 add-value-of : tie.Need-add-value-of
 add-value-of c = search needs
@@ -82,8 +90,8 @@ shared-slice-read-maybe-of-4 c = search needs
 maybe-of-requires-2 : tie.Need-maybe-of-requires-2
 maybe-of-requires-2 c κs = search needs
 
-returns : tie.Need-returns
-returns c = rw (c .maybe-of2 .ensures, c .before .before .before .maybe-of .ensures, c .before .before .before .before .before .before .value-of .ensures)
+returns-2 : tie.Need-returns-2
+returns-2 c = rw (c .maybe-of2 .ensures, c .before .before .before .maybe-of .ensures, c .before .before .before .before .before .before .value-of .ensures)
 
 pub register-at-spec : {M : Type 1} → statement M
 register-at-spec =
@@ -91,6 +99,8 @@ register-at-spec =
     (tie.spec
     mul-head
     shared-slice-read-head
+    set-direct-requires
+    returns
     add-value-of
     mul-value-of
     shared-slice-read-value-of
@@ -115,4 +125,4 @@ register-at-spec =
     mul-maybe-of-4
     shared-slice-read-maybe-of-4
     maybe-of-requires-2
-    returns)
+    returns-2)
