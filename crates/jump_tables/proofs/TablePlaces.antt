@@ -17,7 +17,8 @@ use Rattle.image.specs.Rules.{endOf, tablesSound, dataInside}
 use Rattle.lookups.specs.declared.MaybeWord.the-variants.{Read}
 use Rattle.lookups.specs.Bytes.{hasData, dataFrom, offsetIn, wordAt}
 use Rattle.image.proofs.SoundTables.{sound-tables}
-use Rattle.lookups.proofs.SoundSections.{InSection, section-of, has-data}
+use Rattle.image.proofs.SectionLaws.{section-at}
+use Rattle.lookups.proofs.SoundSections.{InSection, has-data}
 use Rattle.jump_tables.specs.Tables.{isTable}
 
 -- Data and ReadOnly are not Bss
@@ -44,7 +45,7 @@ in-table ws p t e =
         exists = exists;
         from = leb-true _ _ (and-left low high held);
         upto = ltb-true _ _ (and-right low high held);
-        sound = section-of ws (p .section) (sound-tables ws t) exists;
+        sound = section-at ws (sound-tables ws t) (p .section) exists;
       };
       has-bytes = not-bss (s .kind) (eqb (s .kind) dataKind) refl (and-right there kind first-two);
     }

@@ -51,6 +51,7 @@ pub fn guessed_reading(
     }
 }
 
+// The same, as the table is read.
 pub fn reading(im: &[u32], bytes: &[u8], how: How, p: SectionAddress) -> Reading
     requires { ⌜ (tablesSound (now im) ≡ true) × (dataInside (now im) (length (now bytes)) ≡ true) ⌝ }
     ensures { λ r. ⌜ r ≡ readingOf (now (im .entry)) (now (bytes .entry)) how p ⌝ }
