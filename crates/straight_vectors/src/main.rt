@@ -93,15 +93,11 @@ fn is_alike(s: &[u8], at: usize) -> bool
         section: 0,
         address: 4096,
     };
-    let t = step::step(
-        &IMAGE,
-        &s[at + 4..at + 8],
-        place,
-        words::bytes::four(s, at + 4),
-        before(s, at),
-    );
-    let on = goes_on(t.result);
-    on & is_after(t.vm, s, at)
+    let t = step_in_image(s, at, place);
+    let result = t.result;
+    let after = t.vm;
+    let on = goes_on(result);
+    on & is_after(after, s, at)
 }
 
 // How many records of one class there are, and how many of them are alike.
