@@ -1,3 +1,5 @@
+use Prim.Native.Nat.{_≤_, _-_}
+use lib.ListN.{length}
 use native.Mathlib.Omega.{arith}
 use borrow.Author.Needs.{needs}
 use Rattle.straight_vectors.proofs.tally_of.Statement.{statement}
@@ -9,10 +11,10 @@ use Rattle.words.proofs.bytes.four.Reads as four-reads
 use Rattle.words.proofs.sum.wrapping_add.Reads as wrapping-add-reads
 
 abbrev Inv-loop : tie.InvT-loop
-Inv-loop s class words₀ alike₀ at₀ words alike at = ?
+Inv-loop s class words₀ alike₀ at₀ words alike at = at ≤ length s
 
 abbrev μ-loop : tie.MeasureT-loop
-μ-loop s class words₀ alike₀ at₀ words alike at = ?
+μ-loop s class words₀ alike₀ at₀ words alike at = length s - at
 
 -- src/main.rt:113:5
 loop-holds : tie.Need-loop-holds Inv-loop μ-loop
