@@ -9,10 +9,12 @@ use decoder::Op;
 use image::Judged;
 use jump_tables::Table;
 use jump_tables::TableAnswer;
+use places::RelocationTarget;
 use step::Branch;
 use step::Refusal;
 use step::StepResult;
 use step::Stepped;
+use vm::Gpr;
 use vm::VM;
 
 // Writes the answer into the line and answers where it ends.
@@ -65,9 +67,13 @@ fn decode(p: &[u8], line: &mut [u8]) -> usize {
     let w = read::word(p, 0);
     let d = decoder::decode(w);
     let op = d.op;
-    let at = print::word(line, 0, decoder::op_number(w) as u32);
+    let at = print::word(line, 0, decoder::op_number(w));
     let at = print::word(line, at, class(op));
     let at = print::word(line, at, written(w, op));
+    registers(w, line, at)
+}
+
+fn registers(w: u32, line: &mut [u8], at: usize) -> usize {
     let at = print::word(line, at, words::field::rd(w) as u32);
     let at = print::word(line, at, words::field::ra(w) as u32);
     let at = print::word(line, at, words::field::rb(w) as u32);
@@ -78,9 +84,17 @@ fn fields(w: u32, line: &mut [u8], at: usize) -> usize {
     let at = print::word(line, at, words::field::mb(w));
     let at = print::word(line, at, words::field::me(w));
     let at = print::word(line, at, words::field::simm(w));
+    last_fields(w, line, at)
+}
+
+fn last_fields(w: u32, line: &mut [u8], at: usize) -> usize {
     let at = print::word(line, at, words::field::uimm(w));
     let at = print::word(line, at, words::field::crfd(w) as u32);
     let at = print::flag(line, at, words::field::l(w));
+    flags(w, line, at)
+}
+
+fn flags(w: u32, line: &mut [u8], at: usize) -> usize {
     let at = print::word(line, at, words::field::spr(w));
     let at = print::flag(line, at, words::field::lk(w));
     print::flag(line, at, words::field::aa(w))
@@ -124,26 +138,19 @@ fn step(p: &[u8], im: &[u32], data: &[u8], line: &mut [u8]) -> usize {
 // A step's answer; of Illegal, Jump and Branch the state after is the one handed in.
 pub(crate) fn stepped(line: &mut [u8], at: usize, r: Stepped, before: VM) -> usize {
     let result = r.result;
+    let vm = r.vm;
+    let other = r.other;
     match result {
         StepResult::Refused(why) => {
             let at = print::word(line, at, refusal(why));
             states::state(line, at, before)
         }
-        StepResult::Continue => {
-            let at = outcome(line, at, 0);
-            states::state(line, at, r.vm)
-        }
+        StepResult::Continue => with_state(line, at, 0, vm),
         StepResult::LoadStore { address, source, source_reg } => {
             let at = outcome(line, at, 1);
-            let at = print::target(line, at, address);
-            let at = print::register(line, at, source);
-            let at = print::word(line, at, source_reg as u32);
-            states::state(line, at, r.vm)
+            accessed(line, at, address, source, source_reg, vm)
         }
-        StepResult::Illegal => {
-            let at = outcome(line, at, 2);
-            states::state(line, at, before)
-        }
+        StepResult::Illegal => with_state(line, at, 2, before),
         StepResult::Jump(t) => {
             let at = outcome(line, at, 3);
             let at = print::branch_target(line, at, t);
@@ -151,11 +158,23 @@ pub(crate) fn stepped(line: &mut [u8], at: usize, r: Stepped, before: VM) -> usi
         }
         StepResult::Branch { first, second } => {
             let at = outcome(line, at, 4);
-            let at = branch(line, at, first, r.vm);
-            let at = branch(line, at, second, r.other);
+            let at = branch(line, at, first, vm);
+            let at = branch(line, at, second, other);
             states::state(line, at, before)
         }
     }
+}
+
+fn with_state(line: &mut [u8], at: usize, n: u32, s: VM) -> usize {
+    let at = outcome(line, at, n);
+    states::state(line, at, s)
+}
+
+fn accessed(line: &mut [u8], at: usize, address: RelocationTarget, source: Gpr, source_reg: u8, s: VM) -> usize {
+    let at = print::target(line, at, address);
+    let at = print::register(line, at, source);
+    let at = print::word(line, at, source_reg as u32);
+    states::state(line, at, s)
 }
 
 fn outcome(line: &mut [u8], at: usize, n: u32) -> usize {
@@ -164,8 +183,10 @@ fn outcome(line: &mut [u8], at: usize, n: u32) -> usize {
 }
 
 fn branch(line: &mut [u8], at: usize, b: Branch, s: VM) -> usize {
-    let at = print::branch_target(line, at, b.target);
-    let at = print::flag(line, at, b.link);
+    let target = b.target;
+    let link = b.link;
+    let at = print::branch_target(line, at, target);
+    let at = print::flag(line, at, link);
     states::state(line, at, s)
 }
 
@@ -191,17 +212,26 @@ fn fill(entries: &mut [u64], key: u64) {
 
 fn table(p: &[u8], im: &[u32], data: &[u8], entries: &mut [u64], line: &mut [u8]) -> usize {
     let asked = read::word(p, 8) as usize;
-    let room = if asked <= entries.len() { asked } else { entries.len() };
     let word = read::word(p, 9) as u64;
-    table_in(p, im, data, &mut entries[..room], word * 0x1_0000_0000 + word, line)
+    let key = word * 0x1_0000_0000 + word;
+    if asked <= entries.len() {
+        return table_in(p, im, data, &mut entries[..asked], key, line);
+    }
+    table_in(p, im, data, entries, key, line)
 }
 
 fn table_in(p: &[u8], im: &[u32], data: &[u8], entries: &mut [u64], key: u64, line: &mut [u8]) -> usize {
     fill(entries, key);
     let end = read::maybe_place(p, 5);
     let t = jump_tables::uniq_jump_table_entries(im, data, read::place(p, 0), read::word(p, 2), read::place(p, 3), end, entries);
-    let at = print::word(line, 0, table_answer(t.answer));
-    let at = print::word(line, at, (t.count % 0x1_0000_0000) as u32);
+    print_table(t, entries, line)
+}
+
+fn print_table(t: Table, entries: &[u64], line: &mut [u8]) -> usize {
+    let answer = t.answer;
+    let count = (t.count % 0x1_0000_0000) as u32;
+    let at = print::word(line, 0, table_answer(answer));
+    let at = print::word(line, at, count);
     let at = print::word(line, at, t.size);
     keys(entries, line, at)
 }

@@ -1,8 +1,9 @@
 // Lookups in the current image: docs/FORMATS.md, kind 6.
 ghost use mathlib.Core.Path.{_≡_};
 ghost use mathlib.Core.Bool.{true};
+ghost use Prim.Native.Nat.{_<_};
 ghost use lib.ListN.{length};
-ghost use Rattle.image.specs.Rules.{sound, tablesSound};
+ghost use Rattle.image.specs.Rules.{tablesSound, dataInside};
 use crate::print;
 use crate::read;
 use image::Judged;
@@ -13,18 +14,18 @@ use lookups::Wanted;
 use places::MaybeTarget;
 use search::Found;
 
-pub(crate) fn lookup(p: &[u8], im: &[u32], data: &[u8], line: &mut [u8]) -> usize {
-    match image::check_image(im, data) {
+pub(crate) fn lookup(p: &[u8], im: &[u32], bytes: &[u8], line: &mut [u8]) -> usize {
+    match image::check_image(im, bytes) {
         Judged::Broken => print::word(line, 0, 1),
         Judged::Sound => {
             let at = print::word(line, 0, 0);
-            in_tables(p, im, data, line, at)
+            in_tables(p, im, bytes, line, at)
         }
     }
 }
 
-fn in_tables(p: &[u8], im: &[u32], data: &[u8], line: &mut [u8], at: usize) -> usize
-    requires { ⌜ sound (now im) (length (now data)) ≡ true ⌝ }
+fn in_tables(p: &[u8], im: &[u32], bytes: &[u8], line: &mut [u8], at: usize) -> usize
+    requires { ⌜ (tablesSound (now im) ≡ true) × (dataInside (now im) (length (now bytes)) ≡ true) ⌝ }
 {
     let which = read::word(p, 0);
     match which {
@@ -33,9 +34,9 @@ fn in_tables(p: &[u8], im: &[u32], data: &[u8], line: &mut [u8], at: usize) -> u
         3 => relocation(line, at, lookups::relocation_target_for(im, read::place(p, 1), wanted(read::word(p, 3)))),
         4 => print::maybe_target(line, at, lookups::section_address_for(im, read::place(p, 1), read::word(p, 3))),
         5 => print::word(line, at, lookups::known_size(im, read::place(p, 1))),
-        6 => sums(lookups::data_from(im, data, read::place(p, 1)), line, at),
+        6 => sums(lookups::data_from(im, bytes, read::place(p, 1)), line, at),
         7 => visited_bit(p, im, line, at),
-        _ => word_there(line, at, lookups::read_u32(im, data, read::place(p, 1))),
+        _ => word_there(line, at, lookups::read_u32(im, bytes, read::place(p, 1))),
     }
 }
 
@@ -97,7 +98,9 @@ fn sums(bytes: &[u8], line: &mut [u8], at: usize) -> usize {
     two(line, at, second, front(bytes))
 }
 
-fn wide(b: u8) -> u32 {
+fn wide(b: u8) -> u32
+    ensures { λ r. ⌜ r < 256 ⌝ }
+{
     b as u32
 }
 

@@ -38,11 +38,12 @@ fn least(a: usize, b: usize) -> usize
 }
 
 // Reads the payload and answers how many of its bytes were there.
-fn read_payload(payload: &mut [u8], length: u32) -> usize
-    ensures { λ r. ⌜ r ≤ length (now (payload .exit)) ⌝ }
+fn read_payload(payload: &mut [u8], words: u32) -> usize
+    ensures { λ r. ⌜ r ≤ length (now (payload .entry)) ⌝ }
 {
-    let n = least(length as usize * 4, payload.len());
-    io::read_full(STDIN_FILENO, &mut payload[..n])
+    let n = least(words as usize * 4, payload.len());
+    let got = io::read_full(STDIN_FILENO, &mut payload[..n]);
+    least(got, n)
 }
 
 // How many words and bytes of its buffers the current image has.
@@ -63,6 +64,38 @@ fn load_image(p: &[u8], im: &mut [u32], data: &mut [u8]) -> Current
     Current { words, bytes }
 }
 
+// The current image once a record of n bytes is read: its own, where it is one of kind 1.
+fn advance(kind: u32, payload: &[u8], n: usize, im: &mut [u32], data: &mut [u8], before: Current) -> Current {
+    if n <= payload.len() {
+        if kind == 1 {
+            return load_image(&payload[..n], im, data);
+        }
+    }
+    before
+}
+
+// The record's answer over the current image, in the line; where it ends.
+fn answered(
+    kind: u32,
+    payload: &[u8],
+    n: usize,
+    im: &[u32],
+    words: usize,
+    data: &[u8],
+    bytes: usize,
+    entries: &mut [u64],
+    line: &mut [u8],
+) -> usize {
+    if n <= payload.len() {
+        if words <= im.len() {
+            if bytes <= data.len() {
+                return answers::answer(kind, &payload[..n], &im[..words], &data[..bytes], entries, line);
+            }
+        }
+    }
+    0
+}
+
 // Answers each record in turn.
 fn run(payload: &mut [u8], im: &mut [u32], data: &mut [u8], entries: &mut [u64], line: &mut [u8]) {
     let mut words: usize = 0;
@@ -74,12 +107,10 @@ fn run(payload: &mut [u8], im: &mut [u32], data: &mut [u8], entries: &mut [u64],
             return;
         }
         let n = read_payload(payload, h.length);
-        if h.kind == 1 {
-            let c = load_image(&payload[..n], im, data);
-            words = c.words;
-            bytes = c.bytes;
-        }
-        let end = answers::answer(h.kind, &payload[..n], &im[..words], &data[..bytes], entries, line);
+        let now = advance(h.kind, payload, n, im, data, Current { words, bytes });
+        words = now.words;
+        bytes = now.bytes;
+        let end = answered(h.kind, payload, n, im, words, data, bytes, entries, line);
         print::flush(line, end);
         left -= 1;
     }

@@ -23,16 +23,18 @@ fn digit(n: u32) -> u8 {
     if d < 10 { d + 48 } else { d + 87 }
 }
 
+// Four digits of a number below 2^16.
+fn half(line: &mut [u8], at: usize, h: u32) {
+    store(line, at, digit(h >> 12));
+    store(line, plus(at, 1), digit(h >> 8));
+    store(line, plus(at, 2), digit(h >> 4));
+    store(line, plus(at, 3), digit(h));
+}
+
 // One word; answers where the next one stands.
 pub(crate) fn word(line: &mut [u8], at: usize, w: u32) -> usize {
-    store(line, at, digit(w >> 28));
-    store(line, plus(at, 1), digit(w >> 24));
-    store(line, plus(at, 2), digit(w >> 20));
-    store(line, plus(at, 3), digit(w >> 16));
-    store(line, plus(at, 4), digit(w >> 12));
-    store(line, plus(at, 5), digit(w >> 8));
-    store(line, plus(at, 6), digit(w >> 4));
-    store(line, plus(at, 7), digit(w));
+    half(line, at, w >> 16);
+    half(line, plus(at, 4), w);
     store(line, plus(at, 8), b' ');
     plus(at, 9)
 }
@@ -112,14 +114,19 @@ pub(crate) fn value(line: &mut [u8], at: usize, v: GprValue) -> usize {
 }
 
 pub(crate) fn register(line: &mut [u8], at: usize, g: Gpr) -> usize {
-    let at = value(line, at, g.value);
-    let at = maybe_place(line, at, g.hi_addr);
-    maybe_place(line, at, g.lo_addr)
+    let v = g.value;
+    let hi = g.hi_addr;
+    let lo = g.lo_addr;
+    let at = value(line, at, v);
+    let at = maybe_place(line, at, hi);
+    maybe_place(line, at, lo)
 }
 
 pub(crate) fn compare(line: &mut [u8], at: usize, c: Cr) -> usize {
-    let at = value(line, at, c.left);
-    let at = value(line, at, c.right);
+    let left = c.left;
+    let right = c.right;
+    let at = value(line, at, left);
+    let at = value(line, at, right);
     flag(line, at, c.signed)
 }
 
@@ -132,12 +139,13 @@ pub(crate) fn branch_target(line: &mut [u8], at: usize, t: BranchTarget) -> usiz
     }
 }
 
-// The line's last space becomes its end, and the line is written.
-pub(crate) fn flush(line: &mut [u8], end: usize) {
+// The words before `end`, without the last space, and the line's end.
+pub(crate) fn flush(line: &[u8], end: usize) {
     if 0 < end {
-        if end <= line.len() {
-            line[end - 1] = 10;
-            io::write_all(STDOUT_FILENO, &line[..end]);
+        let n = end - 1;
+        if n <= line.len() {
+            io::write_all(STDOUT_FILENO, &line[..n]);
+            io::write_all(STDOUT_FILENO, b"\n");
         }
     }
 }

@@ -4,6 +4,7 @@ use places::MaybeAddress;
 use vm::Cr;
 use vm::Gpr;
 use vm::GprValue;
+use vm::Held;
 use vm::VM;
 
 fn is_unknown(v: GprValue) -> bool {
@@ -21,69 +22,100 @@ fn is_nowhere(m: MaybeAddress) -> bool {
 }
 
 fn is_blank(g: Gpr) -> bool {
-    let value = is_unknown(g.value);
-    let hi = is_nowhere(g.hi_addr);
-    let lo = is_nowhere(g.lo_addr);
-    value & hi & lo
+    let v = g.value;
+    let hi = g.hi_addr;
+    let lo = g.lo_addr;
+    let unknown = is_unknown(v);
+    let no_hi = is_nowhere(hi);
+    let no_lo = is_nowhere(lo);
+    unknown & no_hi & no_lo
 }
 
 fn is_unset(c: Cr) -> bool {
-    let left = is_unknown(c.left);
-    let right = is_unknown(c.right);
-    left & right & !c.signed
+    let left = c.left;
+    let right = c.right;
+    let no_left = is_unknown(left);
+    let no_right = is_unknown(right);
+    no_left & no_right & !c.signed
 }
 
 fn one_unless(b: bool) -> u32 {
     if b { 0 } else { 1 }
 }
 
-// How many items the state has.
-fn items(s: VM) -> u32 {
+// How many registers have an item.
+fn known_registers(s: VM) -> u32 {
     let mut n: u32 = 0;
     let mut i: usize = 0;
     while i < 32 {
         n = words::sum::wrapping_add(n, one_unless(is_blank(s.gpr[i])));
         i += 1;
     }
+    n
+}
+
+// How many compare records have one.
+fn known_compares(s: VM) -> u32 {
+    let mut n: u32 = 0;
     let mut k: usize = 0;
     while k < 8 {
         n = words::sum::wrapping_add(n, one_unless(is_unset(s.cr[k])));
         k += 1;
     }
-    let lr = one_unless(is_unknown(s.lr.value));
-    let ctr = one_unless(is_unknown(s.ctr.value));
-    words::sum::wrapping_add(n, words::sum::wrapping_add(lr, ctr))
+    n
+}
+
+fn one_if_held(h: Held) -> u32 {
+    let v = h.value;
+    one_unless(is_unknown(v))
+}
+
+// How many items the state has.
+fn items(s: VM) -> u32 {
+    let lr = s.lr;
+    let ctr = s.ctr;
+    let both = words::sum::wrapping_add(one_if_held(lr), one_if_held(ctr));
+    words::sum::wrapping_add(words::sum::wrapping_add(known_registers(s), known_compares(s)), both)
+}
+
+fn register_item(line: &mut [u8], at: usize, item: u32, g: Gpr) -> usize {
+    if is_blank(g) {
+        return at;
+    }
+    let at = print::word(line, at, item);
+    print::register(line, at, g)
 }
 
 fn registers(line: &mut [u8], at: usize, s: VM) -> usize {
     let mut at = at;
     let mut i: usize = 0;
     while i < 32 {
-        let g = s.gpr[i];
-        if !is_blank(g) {
-            at = print::word(line, at, i as u32);
-            at = print::register(line, at, g);
-        }
+        at = register_item(line, at, i as u32, s.gpr[i]);
         i += 1;
     }
     at
+}
+
+fn compare_item(line: &mut [u8], at: usize, item: u32, c: Cr) -> usize {
+    if is_unset(c) {
+        return at;
+    }
+    let at = print::word(line, at, item);
+    print::compare(line, at, c)
 }
 
 fn compares(line: &mut [u8], at: usize, s: VM) -> usize {
     let mut at = at;
     let mut k: usize = 0;
     while k < 8 {
-        let c = s.cr[k];
-        if !is_unset(c) {
-            at = print::word(line, at, k as u32 + 32);
-            at = print::compare(line, at, c);
-        }
+        at = compare_item(line, at, k as u32 + 32, s.cr[k]);
         k += 1;
     }
     at
 }
 
-fn held(line: &mut [u8], at: usize, item: u32, v: GprValue) -> usize {
+fn held(line: &mut [u8], at: usize, item: u32, h: Held) -> usize {
+    let v = h.value;
     if is_unknown(v) {
         return at;
     }
@@ -92,9 +124,15 @@ fn held(line: &mut [u8], at: usize, item: u32, v: GprValue) -> usize {
 }
 
 pub(crate) fn state(line: &mut [u8], at: usize, s: VM) -> usize {
+    let lr = s.lr;
+    let ctr = s.ctr;
     let at = print::word(line, at, items(s));
+    let at = records(line, at, s);
+    let at = held(line, at, 40, lr);
+    held(line, at, 41, ctr)
+}
+
+fn records(line: &mut [u8], at: usize, s: VM) -> usize {
     let at = registers(line, at, s);
-    let at = compares(line, at, s);
-    let at = held(line, at, 40, s.lr.value);
-    held(line, at, 41, s.ctr.value)
+    compares(line, at, s)
 }

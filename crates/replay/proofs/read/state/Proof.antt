@@ -35,7 +35,7 @@ plus-requires c κs = search needs
 
 -- src/read.rt:141:5
 loop-holds : tie.Need-loop-holds Inv-loop μ-loop
-loop-holds c = search needs
+loop-holds c = (search needs, ap (λ (s : VM). length (s .gpr)) (c .before .before .new .ensures), ap (λ (s : VM). length (s .cr)) (c .before .before .new .ensures))
 
 -- src/read.rt:142:20
 word-requires-2 : tie.Need-word-requires-2 Inv-loop μ-loop
