@@ -4,7 +4,6 @@ ghost use mathlib.Core.Path.{_≡_};
 ghost use mathlib.Core.Bool.{true};
 ghost use lib.ListN.{length};
 ghost use Rattle.image.specs.Rules.{tablesSound};
-use image::Judged;
 use libc::STDIN_FILENO;
 use libc::STDOUT_FILENO;
 use places::SectionAddress;
@@ -37,14 +36,11 @@ fn repeat(im: &[u32], code: &[u8], turns: u32) -> u32
 fn measure(code: &[u8], turns: u32) {
     let size = (code.len() % 65536) as u32;
     let im = [0, 0, 1, 0, 0, 0, 4096, size, 0, 0, 0, size];
-    match image::check_image(&im, code) {
-        Judged::Broken => {
-            io::write_all(STDOUT_FILENO, b"no image\n");
-        }
-        Judged::Sound => {
-            io::print_decimal(STDOUT_FILENO, repeat(&im, code, turns) as u64);
-            io::write_all(STDOUT_FILENO, b"\n");
-        }
+    if image::judge::tables_sound(&im) {
+        io::print_decimal(STDOUT_FILENO, repeat(&im, code, turns) as u64);
+        io::write_all(STDOUT_FILENO, b"\n");
+    } else {
+        io::write_all(STDOUT_FILENO, b"no image\n");
     }
 }
 
