@@ -18,12 +18,27 @@ use vm::Gpr;
 use vm::VM;
 
 // Writes the answer into the line and answers where it ends.
-pub(crate) fn answer(kind: u32, p: &[u8], im: &[u32], data: &[u8], entries: &mut [u64], line: &mut [u8]) -> usize {
+pub(crate) fn answer(
+    kind: u32,
+    p: &[u8],
+    im: &[u32],
+    data: &[u8],
+    entries: &mut [u64],
+    line: &mut [u8],
+) -> usize {
     match kind {
         1 => image(im, data, line),
         2 => decode(p, line),
-        3 => print::word(line, 0, words::mask::mask_value(read::word(p, 0), read::word(p, 1))),
-        4 => print::word(line, 0, words::mask::rotate_left(read::word(p, 0), read::word(p, 1))),
+        3 => print::word(
+            line,
+            0,
+            words::mask::mask_value(read::word(p, 0), read::word(p, 1)),
+        ),
+        4 => print::word(
+            line,
+            0,
+            words::mask::rotate_left(read::word(p, 0), read::word(p, 1)),
+        ),
         5 => branch_dest(p, line),
         6 => asked::lookup(p, im, data, line),
         7 => step(p, im, data, line),
@@ -146,7 +161,11 @@ pub(crate) fn stepped(line: &mut [u8], at: usize, r: Stepped, before: VM) -> usi
             states::state(line, at, before)
         }
         StepResult::Continue => with_state(line, at, 0, vm),
-        StepResult::LoadStore { address, source, source_reg } => {
+        StepResult::LoadStore {
+            address,
+            source,
+            source_reg,
+        } => {
             let at = outcome(line, at, 1);
             accessed(line, at, address, source, source_reg, vm)
         }
@@ -170,7 +189,14 @@ fn with_state(line: &mut [u8], at: usize, n: u32, s: VM) -> usize {
     states::state(line, at, s)
 }
 
-fn accessed(line: &mut [u8], at: usize, address: RelocationTarget, source: Gpr, source_reg: u8, s: VM) -> usize {
+fn accessed(
+    line: &mut [u8],
+    at: usize,
+    address: RelocationTarget,
+    source: Gpr,
+    source_reg: u8,
+    s: VM,
+) -> usize {
     let at = print::target(line, at, address);
     let at = print::register(line, at, source);
     let at = print::word(line, at, source_reg as u32);
@@ -220,10 +246,25 @@ fn table(p: &[u8], im: &[u32], data: &[u8], entries: &mut [u64], line: &mut [u8]
     table_in(p, im, data, entries, key, line)
 }
 
-fn table_in(p: &[u8], im: &[u32], data: &[u8], entries: &mut [u64], key: u64, line: &mut [u8]) -> usize {
+fn table_in(
+    p: &[u8],
+    im: &[u32],
+    data: &[u8],
+    entries: &mut [u64],
+    key: u64,
+    line: &mut [u8],
+) -> usize {
     fill(entries, key);
     let end = read::maybe_place(p, 5);
-    let t = jump_tables::uniq_jump_table_entries(im, data, read::place(p, 0), read::word(p, 2), read::place(p, 3), end, entries);
+    let t = jump_tables::uniq_jump_table_entries(
+        im,
+        data,
+        read::place(p, 0),
+        read::word(p, 2),
+        read::place(p, 3),
+        end,
+        entries,
+    );
     print_table(t, entries, line)
 }
 

@@ -31,8 +31,16 @@ fn in_tables(p: &[u8], im: &[u32], bytes: &[u8], line: &mut [u8], at: usize) -> 
     match which {
         1 => found(line, at, lookups::at_address(im, read::word(p, 1))),
         2 => found(line, at, image::elf::elf_index(im, read::word(p, 1))),
-        3 => relocation(line, at, lookups::relocation_target_for(im, read::place(p, 1), wanted(read::word(p, 3)))),
-        4 => print::maybe_target(line, at, lookups::section_address_for(im, read::place(p, 1), read::word(p, 3))),
+        3 => relocation(
+            line,
+            at,
+            lookups::relocation_target_for(im, read::place(p, 1), wanted(read::word(p, 3))),
+        ),
+        4 => print::maybe_target(
+            line,
+            at,
+            lookups::section_address_for(im, read::place(p, 1), read::word(p, 3)),
+        ),
         5 => print::word(line, at, lookups::known_size(im, read::place(p, 1))),
         6 => sums(lookups::data_from(im, bytes, read::place(p, 1)), line, at),
         7 => visited_bit(p, im, line, at),
@@ -118,7 +126,11 @@ fn visited_bit(p: &[u8], im: &[u32], line: &mut [u8], at: usize) -> usize
     requires { ⌜ tablesSound (now im) ≡ true ⌝ }
 {
     let place = read::place(p, 1);
-    let at = print::word(line, at, (image::code::code_words(im) % 0x1_0000_0000) as u32);
+    let at = print::word(
+        line,
+        at,
+        (image::code::code_words(im) % 0x1_0000_0000) as u32,
+    );
     match lookups::code_place(im, place) {
         CodePlace::NotCode => two(line, at, 2, 0),
         CodePlace::Misaligned => two(line, at, 3, 0),

@@ -2,12 +2,14 @@
 // on standard output. The oracle answers the same file; equal means equal byte for byte.
 ghost use Prim.Native.Nat.{_≤_};
 ghost use lib.ListN.{length};
+
 mod answers;
 mod asked;
 mod print;
 mod read;
 mod rooms;
 mod states;
+
 use libc::STDIN_FILENO;
 use libc::STDOUT_FILENO;
 
@@ -65,7 +67,14 @@ fn load_image(p: &[u8], im: &mut [u32], data: &mut [u8]) -> Current
 }
 
 // The current image once a record of n bytes is read: its own, where it is one of kind 1.
-fn advance(kind: u32, payload: &[u8], n: usize, im: &mut [u32], data: &mut [u8], before: Current) -> Current {
+fn advance(
+    kind: u32,
+    payload: &[u8],
+    n: usize,
+    im: &mut [u32],
+    data: &mut [u8],
+    before: Current,
+) -> Current {
     if n <= payload.len() {
         if kind == 1 {
             return load_image(&payload[..n], im, data);
@@ -89,7 +98,14 @@ fn answered(
     if n <= payload.len() {
         if words <= im.len() {
             if bytes <= data.len() {
-                return answers::answer(kind, &payload[..n], &im[..words], &data[..bytes], entries, line);
+                return answers::answer(
+                    kind,
+                    &payload[..n],
+                    &im[..words],
+                    &data[..bytes],
+                    entries,
+                    line,
+                );
             }
         }
     }

@@ -40,7 +40,11 @@ pub(crate) fn word(line: &mut [u8], at: usize, w: u32) -> usize {
 }
 
 pub(crate) fn flag(line: &mut [u8], at: usize, b: bool) -> usize {
-    if b { word(line, at, 1) } else { word(line, at, 0) }
+    if b {
+        word(line, at, 1)
+    } else {
+        word(line, at, 0)
+    }
 }
 
 fn three(line: &mut [u8], at: usize, a: u32, b: u32, c: u32) -> usize {
@@ -109,7 +113,10 @@ pub(crate) fn value(line: &mut [u8], at: usize, v: GprValue) -> usize {
         GprValue::Address(t) => tagged(line, at, 2, t, 0),
         GprValue::ComparisonResult(k) => five(line, at, 3, k as u32, 0, 0, 0),
         GprValue::Range { min, max, step } => five(line, at, 4, min, max, step, 0),
-        GprValue::LoadIndexed { address, max_offset } => tagged(line, at, 5, address, size_of(max_offset)),
+        GprValue::LoadIndexed {
+            address,
+            max_offset,
+        } => tagged(line, at, 5, address, size_of(max_offset)),
     }
 }
 

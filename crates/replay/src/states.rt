@@ -75,7 +75,10 @@ fn items(s: VM) -> u32 {
     let lr = s.lr;
     let ctr = s.ctr;
     let both = words::sum::wrapping_add(one_if_held(lr), one_if_held(ctr));
-    words::sum::wrapping_add(words::sum::wrapping_add(known_registers(s), known_compares(s)), both)
+    words::sum::wrapping_add(
+        words::sum::wrapping_add(known_registers(s), known_compares(s)),
+        both,
+    )
 }
 
 fn register_item(line: &mut [u8], at: usize, item: u32, g: Gpr) -> usize {

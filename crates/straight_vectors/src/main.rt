@@ -83,7 +83,13 @@ fn step_in_image(s: &[u8], at: usize, place: SectionAddress) -> Stepped
 {
     let from = at + 4;
     let to = at + 8;
-    step::step(&IMAGE, &s[from..to], place, words::bytes::four(s, from), before(s, at))
+    step::step(
+        &IMAGE,
+        &s[from..to],
+        place,
+        words::bytes::four(s, from),
+        before(s, at),
+    )
 }
 
 fn is_alike(s: &[u8], at: usize) -> bool

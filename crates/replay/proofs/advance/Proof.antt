@@ -1,38 +1,29 @@
+-- `replay::advance` meets its contract. Assumes nothing.
 use lib.Seq.{length-take-le}
 use mathlib.Core.Path.{sym}
 use native.Mathlib.Omega.{arith}
 use borrow.Author.Needs.{needs}
 use Rattle.replay.proofs.advance.Statement.{statement}
 use Rattle.replay.proofs.advance.Tie as tie
-use Rattle.replay.proofs.advance.Reads as reads
-use Rattle.replay.proofs.advance.Lts as lts
-use Rattle.replay.proofs.load_image.Reads as load-image-reads
 
--- src/main.rt:71:31
 slice-aggregate-load-image : tie.Need-slice-aggregate-load-image
 slice-aggregate-load-image c = let a = c .before .before .before .before .before .before .args in sym (length-take-le (a .n) (a .payload .now) (omega arith))
 
--- src/main.rt:71:13
 load-image-requires : tie.Need-load-image-requires
 load-image-requires c κs = search needs
 
--- src/main.rt:71:13
 same-length : tie.Need-same-length
 same-length c = search needs
 
--- src/main.rt:71:13
 same-length-2 : tie.Need-same-length-2
 same-length-2 c = search needs
 
--- src/main.rt:71:13
 returns : tie.Need-returns
 returns c = search needs
 
--- src/main.rt:68:1
 returns-2 : tie.Need-returns-2
 returns-2 c = search needs
 
--- src/main.rt:68:1
 returns-3 : tie.Need-returns-3
 returns-3 c = search needs
 

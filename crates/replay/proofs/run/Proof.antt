@@ -1,16 +1,9 @@
+-- `replay::run` meets its contract. Assumes nothing.
 use mathlib.Core.Path.{_≡_}
 use lib.ListN.{length}
-use native.Mathlib.Omega.{arith}
 use borrow.Author.Needs.{needs}
 use Rattle.replay.proofs.run.Statement.{statement}
 use Rattle.replay.proofs.run.Tie as tie
-use Rattle.replay.proofs.run.Reads as reads
-use Rattle.replay.proofs.run.Lts as lts
-use Rattle.replay.proofs.advance.Reads as advance-reads
-use Rattle.replay.proofs.answered.Reads as answered-reads
-use Rattle.replay.proofs.next_head.Reads as next-head-reads
-use Rattle.replay.proofs.print.flush.Reads as flush-reads
-use Rattle.replay.proofs.read_payload.Reads as read-payload-reads
 
 abbrev Inv-loop : tie.InvT-loop
 Inv-loop payload₀ im₀ data₀ entries₀ line₀ words₀ bytes₀ left₀ payload im «data» entries line words bytes left = (length payload ≡ length payload₀) × (length im ≡ length im₀) × (length «data» ≡ length data₀) × (length entries ≡ length entries₀) × (length line ≡ length line₀)
@@ -18,87 +11,66 @@ Inv-loop payload₀ im₀ data₀ entries₀ line₀ words₀ bytes₀ left₀ p
 abbrev μ-loop : tie.MeasureT-loop
 μ-loop payload₀ im₀ data₀ entries₀ line₀ words₀ bytes₀ left₀ payload im «data» entries line words bytes left = left
 
--- src/main.rt:104:5
 loop-holds : tie.Need-loop-holds Inv-loop μ-loop
 loop-holds c = search needs
 
--- src/main.rt:105:13
 next-head-requires : tie.Need-next-head-requires Inv-loop μ-loop
 next-head-requires c κs = search needs
 
--- src/main.rt:107:13
 same-length : tie.Need-same-length Inv-loop μ-loop
 same-length c = search needs
 
--- src/main.rt:107:13
 same-length-2 : tie.Need-same-length-2 Inv-loop μ-loop
 same-length-2 c = search needs
 
--- src/main.rt:107:13
 same-length-3 : tie.Need-same-length-3 Inv-loop μ-loop
 same-length-3 c = search needs
 
--- src/main.rt:107:13
 same-length-4 : tie.Need-same-length-4 Inv-loop μ-loop
 same-length-4 c = search needs
 
--- src/main.rt:107:13
 same-length-5 : tie.Need-same-length-5 Inv-loop μ-loop
 same-length-5 c = search needs
 
--- src/main.rt:107:13
 returns : tie.Need-returns Inv-loop μ-loop
 returns c = search needs
 
--- src/main.rt:109:13
 read-payload-requires : tie.Need-read-payload-requires Inv-loop μ-loop
 read-payload-requires c κs = search needs
 
--- src/main.rt:110:13
 advance-requires : tie.Need-advance-requires Inv-loop μ-loop
 advance-requires c κs = search needs
 
--- src/main.rt:113:13
 answered-requires : tie.Need-answered-requires Inv-loop μ-loop
 answered-requires c κs = search needs
 
--- src/main.rt:114:9
 flush-requires : tie.Need-flush-requires Inv-loop μ-loop
 flush-requires c κs = search needs
 
--- src/main.rt:115:9
 sub-left : tie.Need-sub-left Inv-loop μ-loop
 sub-left c = search needs
 
--- src/main.rt:104:5
 loop-less : tie.Need-loop-less Inv-loop μ-loop
 loop-less c = search needs
 
--- src/main.rt:104:5
 loop-again : tie.Need-loop-again Inv-loop μ-loop
 loop-again c = search needs
 
--- src/main.rt:100:1
 same-length-6 : tie.Need-same-length-6 Inv-loop μ-loop
 same-length-6 c = search needs
 
--- src/main.rt:100:1
 same-length-7 : tie.Need-same-length-7 Inv-loop μ-loop
 same-length-7 c = search needs
 
--- src/main.rt:100:1
 same-length-8 : tie.Need-same-length-8 Inv-loop μ-loop
 same-length-8 c = search needs
 
--- src/main.rt:100:1
 same-length-9 : tie.Need-same-length-9 Inv-loop μ-loop
 same-length-9 c = search needs
 
--- src/main.rt:100:1
 same-length-10 : tie.Need-same-length-10 Inv-loop μ-loop
 same-length-10 c = search needs
 
--- src/main.rt:100:1
 returns-2 : tie.Need-returns-2 Inv-loop μ-loop
 returns-2 c = search needs
 

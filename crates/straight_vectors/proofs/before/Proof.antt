@@ -1,16 +1,11 @@
+-- `straight_vectors::before` meets its contract. Assumes nothing.
 use Rattle.vm.specs.declared.VM.{VM}
 use mathlib.Core.Path.{_≡_, ap}
 use lib.ListN.{length}
 use Prim.Native.Nat.{_≤_, _-_}
-use native.Mathlib.Omega.{arith}
 use borrow.Author.Needs.{needs}
 use Rattle.straight_vectors.proofs.before.Statement.{statement}
 use Rattle.straight_vectors.proofs.before.Tie as tie
-use Rattle.straight_vectors.proofs.before.Reads as reads
-use Rattle.straight_vectors.proofs.before.Lts as lts
-use Rattle.straight_vectors.proofs.constant.Reads as constant-reads
-use Rattle.vm.proofs.state.new.Reads as new-reads
-use Rattle.words.proofs.bytes.four.Reads as four-reads
 
 abbrev Inv-loop : tie.InvT-loop
 Inv-loop s at t₀ r₀ t r = (r ≤ 32) × (length (t .gpr) ≡ 32)
@@ -18,55 +13,42 @@ Inv-loop s at t₀ r₀ t r = (r ≤ 32) × (length (t .gpr) ≡ 32)
 abbrev μ-loop : tie.MeasureT-loop
 μ-loop s at t₀ r₀ t r = 32 - r
 
--- src/main.rt:41:17
 new-requires : tie.Need-new-requires Inv-loop μ-loop
 new-requires c κs = search needs
 
--- src/main.rt:43:5
 loop-holds : tie.Need-loop-holds Inv-loop μ-loop
 loop-holds c = (search needs, ap (λ (s : VM). length (s .gpr)) (c .new .ensures))
 
--- src/main.rt:44:51
 add-four : tie.Need-add-four Inv-loop μ-loop
 add-four c = search needs
 
--- src/main.rt:44:60
 mul-four : tie.Need-mul-four Inv-loop μ-loop
 mul-four c = search needs
 
--- src/main.rt:44:51
 add-four-2 : tie.Need-add-four-2 Inv-loop μ-loop
 add-four-2 c = search needs
 
--- src/main.rt:44:29
 four-requires : tie.Need-four-requires Inv-loop μ-loop
 four-requires c κs = search needs
 
--- src/main.rt:44:20
 constant-requires : tie.Need-constant-requires Inv-loop μ-loop
 constant-requires c κs = search needs
 
--- src/main.rt:44:9
 mul-t12 : tie.Need-mul-t12 Inv-loop μ-loop
 mul-t12 c = search needs
 
--- src/main.rt:44:9
 element-set-from-t : tie.Need-element-set-from-t Inv-loop μ-loop
 element-set-from-t c = search needs
 
--- src/main.rt:45:9
 add-r : tie.Need-add-r Inv-loop μ-loop
 add-r c = search needs
 
--- src/main.rt:43:5
 loop-less : tie.Need-loop-less Inv-loop μ-loop
 loop-less c = search needs
 
--- src/main.rt:43:5
 loop-again : tie.Need-loop-again Inv-loop μ-loop
 loop-again c = search needs
 
--- src/main.rt:38:1
 returns : tie.Need-returns Inv-loop μ-loop
 returns c = search needs
 

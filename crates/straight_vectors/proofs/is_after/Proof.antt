@@ -1,12 +1,8 @@
+-- `straight_vectors::is_after` meets its contract. Assumes nothing.
 use Prim.Native.Nat.{_≤_, _-_}
-use native.Mathlib.Omega.{arith}
 use borrow.Author.Needs.{needs}
 use Rattle.straight_vectors.proofs.is_after.Statement.{statement}
 use Rattle.straight_vectors.proofs.is_after.Tie as tie
-use Rattle.straight_vectors.proofs.is_after.Reads as reads
-use Rattle.straight_vectors.proofs.is_after.Lts as lts
-use Rattle.straight_vectors.proofs.holds.Reads as holds-reads
-use Rattle.words.proofs.bytes.four.Reads as four-reads
 
 abbrev Inv-loop : tie.InvT-loop
 Inv-loop s at t r₀ r = r ≤ 32
@@ -14,55 +10,42 @@ Inv-loop s at t r₀ r = r ≤ 32
 abbrev μ-loop : tie.MeasureT-loop
 μ-loop s at t r₀ r = 32 - r
 
--- src/main.rt:63:5
 loop-holds : tie.Need-loop-holds Inv-loop μ-loop
 loop-holds c = search needs
 
--- src/main.rt:64:19
 mul-holds : tie.Need-mul-holds Inv-loop μ-loop
 mul-holds c = search needs
 
--- src/main.rt:64:19
 element-copy-out-holds : tie.Need-element-copy-out-holds Inv-loop μ-loop
 element-copy-out-holds c = search needs
 
--- src/main.rt:64:51
 add-four : tie.Need-add-four Inv-loop μ-loop
 add-four c = search needs
 
--- src/main.rt:64:62
 mul-four : tie.Need-mul-four Inv-loop μ-loop
 mul-four c = search needs
 
--- src/main.rt:64:51
 add-four-2 : tie.Need-add-four-2 Inv-loop μ-loop
 add-four-2 c = search needs
 
--- src/main.rt:64:29
 four-requires : tie.Need-four-requires Inv-loop μ-loop
 four-requires c κs = search needs
 
--- src/main.rt:64:13
 holds-requires : tie.Need-holds-requires Inv-loop μ-loop
 holds-requires c κs = search needs
 
--- src/main.rt:65:13
 returns : tie.Need-returns Inv-loop μ-loop
 returns c = search needs
 
--- src/main.rt:67:9
 add-r : tie.Need-add-r Inv-loop μ-loop
 add-r c = search needs
 
--- src/main.rt:63:5
 loop-less : tie.Need-loop-less Inv-loop μ-loop
 loop-less c = search needs
 
--- src/main.rt:63:5
 loop-again : tie.Need-loop-again Inv-loop μ-loop
 loop-again c = search needs
 
--- src/main.rt:59:1
 returns-2 : tie.Need-returns-2 Inv-loop μ-loop
 returns-2 c = search needs
 

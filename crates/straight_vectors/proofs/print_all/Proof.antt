@@ -1,12 +1,8 @@
+-- `straight_vectors::print_all` meets its contract. Assumes nothing.
 use Prim.Native.Nat.{_≤_, _-_}
-use native.Mathlib.Omega.{arith}
 use borrow.Author.Needs.{needs}
 use Rattle.straight_vectors.proofs.print_all.Statement.{statement}
 use Rattle.straight_vectors.proofs.print_all.Tie as tie
-use Rattle.straight_vectors.proofs.print_all.Reads as reads
-use Rattle.straight_vectors.proofs.print_all.Lts as lts
-use Rattle.straight_vectors.proofs.print_line.Reads as print-line-reads
-use Rattle.straight_vectors.proofs.tally_of.Reads as tally-of-reads
 
 abbrev Inv-loop : tie.InvT-loop
 Inv-loop records class₀ class = class ≤ 25
@@ -14,31 +10,24 @@ Inv-loop records class₀ class = class ≤ 25
 abbrev μ-loop : tie.MeasureT-loop
 μ-loop records class₀ class = 25 - class
 
--- src/main.rt:177:5
 loop-holds : tie.Need-loop-holds Inv-loop μ-loop
 loop-holds c = search needs
 
--- src/main.rt:178:27
 tally-of-requires : tie.Need-tally-of-requires Inv-loop μ-loop
 tally-of-requires c κs = search needs
 
--- src/main.rt:178:9
 print-line-requires : tie.Need-print-line-requires Inv-loop μ-loop
 print-line-requires c κs = search needs
 
--- src/main.rt:179:9
 add-class : tie.Need-add-class Inv-loop μ-loop
 add-class c = search needs
 
--- src/main.rt:177:5
 loop-less : tie.Need-loop-less Inv-loop μ-loop
 loop-less c = search needs
 
--- src/main.rt:177:5
 loop-again : tie.Need-loop-again Inv-loop μ-loop
 loop-again c = search needs
 
--- src/main.rt:175:1
 returns : tie.Need-returns Inv-loop μ-loop
 returns c = search needs
 

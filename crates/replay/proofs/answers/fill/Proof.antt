@@ -1,13 +1,11 @@
+-- `replay::answers::fill` meets its contract. Assumes nothing.
 use lib.ListN.{length, length-set}
 use Prim.Native.Nat.{_≤_, _-_}
 use mathlib.Core.Path.{_≡_}
-use lib.ListN.{length}
 use native.Mathlib.Omega.{arith}
 use borrow.Author.Needs.{needs}
 use Rattle.replay.proofs.answers.fill.Statement.{statement}
 use Rattle.replay.proofs.answers.fill.Tie as tie
-use Rattle.replay.proofs.answers.fill.Reads as reads
-use Rattle.replay.proofs.answers.fill.Lts as lts
 
 abbrev Inv-loop : tie.InvT-loop
 Inv-loop entries₀ key i₀ entries i = (i ≤ length entries) × (length entries ≡ length entries₀)
@@ -15,35 +13,27 @@ Inv-loop entries₀ key i₀ entries i = (i ≤ length entries) × (length entri
 abbrev μ-loop : tie.MeasureT-loop
 μ-loop entries₀ key i₀ entries i = length entries - i
 
--- src/answers.rt:207:5
 loop-holds : tie.Need-loop-holds Inv-loop μ-loop
 loop-holds c = search needs
 
--- src/answers.rt:208:9
 mul-entries : tie.Need-mul-entries Inv-loop μ-loop
 mul-entries c = search needs
 
--- src/answers.rt:208:9
 slice-write-entries : tie.Need-slice-write-entries Inv-loop μ-loop
 slice-write-entries c = search needs
 
--- src/answers.rt:209:9
 add-i : tie.Need-add-i Inv-loop μ-loop
 add-i c = search needs
 
--- src/answers.rt:207:5
 loop-less : tie.Need-loop-less Inv-loop μ-loop
 loop-less c = simp length-set (omega arith)
 
--- src/answers.rt:207:5
 loop-again : tie.Need-loop-again Inv-loop μ-loop
 loop-again c = (simp length-set (omega arith), simp length-set (c .before .loop .inv .1))
 
--- src/answers.rt:205:1
 same-length : tie.Need-same-length Inv-loop μ-loop
 same-length c = search needs
 
--- src/answers.rt:205:1
 returns : tie.Need-returns Inv-loop μ-loop
 returns c = search needs
 

@@ -1,15 +1,9 @@
+-- `replay::asked::sums` meets its contract. Assumes nothing.
 use Prim.Native.Nat.{_≤_, _-_}
 use lib.ListN.{length}
-use native.Mathlib.Omega.{arith}
 use borrow.Author.Needs.{needs}
 use Rattle.replay.proofs.asked.sums.Statement.{statement}
 use Rattle.replay.proofs.asked.sums.Tie as tie
-use Rattle.replay.proofs.asked.sums.Reads as reads
-use Rattle.replay.proofs.asked.sums.Lts as lts
-use Rattle.replay.proofs.asked.front.Reads as front-reads
-use Rattle.replay.proofs.asked.two.Reads as two-reads
-use Rattle.replay.proofs.asked.wide.Reads as wide-reads
-use Rattle.words.proofs.sum.wrapping_add.Reads as wrapping-add-reads
 
 abbrev Inv-loop : tie.InvT-loop
 Inv-loop bytes line at first₀ second₀ i₀ first second i = i ≤ length bytes
@@ -17,63 +11,48 @@ Inv-loop bytes line at first₀ second₀ i₀ first second i = i ≤ length byt
 abbrev μ-loop : tie.MeasureT-loop
 μ-loop bytes line at first₀ second₀ i₀ first second i = length bytes - i
 
--- src/asked.rt:92:5
 loop-holds : tie.Need-loop-holds Inv-loop μ-loop
 loop-holds c = search needs
 
--- src/asked.rt:93:54
 shared-slice-read-wide : tie.Need-shared-slice-read-wide Inv-loop μ-loop
 shared-slice-read-wide c = search needs
 
--- src/asked.rt:93:49
 wide-requires : tie.Need-wide-requires Inv-loop μ-loop
 wide-requires c κs = search needs
 
--- src/asked.rt:93:49
 add-wrapping-add : tie.Need-add-wrapping-add Inv-loop μ-loop
 add-wrapping-add c = search needs
 
--- src/asked.rt:93:9
 wrapping-add-requires : tie.Need-wrapping-add-requires Inv-loop μ-loop
 wrapping-add-requires c κs = search needs
 
--- src/asked.rt:94:9
 wrapping-add-requires-2 : tie.Need-wrapping-add-requires-2 Inv-loop μ-loop
 wrapping-add-requires-2 c κs = search needs
 
--- src/asked.rt:95:9
 add-i : tie.Need-add-i Inv-loop μ-loop
 add-i c = search needs
 
--- src/asked.rt:92:5
 loop-less : tie.Need-loop-less Inv-loop μ-loop
 loop-less c = search needs
 
--- src/asked.rt:92:5
 loop-again : tie.Need-loop-again Inv-loop μ-loop
 loop-again c = search needs
 
--- src/asked.rt:97:28
 cast-two : tie.Need-cast-two Inv-loop μ-loop
 cast-two c = search needs
 
--- src/asked.rt:97:9
 two-requires : tie.Need-two-requires Inv-loop μ-loop
 two-requires c κs = search needs
 
--- src/asked.rt:98:27
 front-requires : tie.Need-front-requires Inv-loop μ-loop
 front-requires c κs = search needs
 
--- src/asked.rt:98:5
 two-requires-2 : tie.Need-two-requires-2 Inv-loop μ-loop
 two-requires-2 c κs = search needs
 
--- src/asked.rt:88:1
 same-length : tie.Need-same-length Inv-loop μ-loop
 same-length c = search needs
 
--- src/asked.rt:88:1
 returns : tie.Need-returns Inv-loop μ-loop
 returns c = search needs
 

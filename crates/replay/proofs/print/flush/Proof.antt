@@ -1,3 +1,4 @@
+-- `replay::print::flush` meets its contract. Assumes nothing.
 use Prim.Native.Nat.{_-_}
 use lib.Seq.{length-take-le}
 use mathlib.Core.Path.{sym}
@@ -5,39 +6,28 @@ use native.Mathlib.Omega.{arith}
 use borrow.Author.Needs.{needs}
 use Rattle.replay.proofs.print.flush.Statement.{statement}
 use Rattle.replay.proofs.print.flush.Tie as tie
-use Rattle.replay.proofs.print.flush.Reads as reads
-use Rattle.replay.proofs.print.flush.Lts as lts
-use Rattle.io.proofs.write_all.Reads as write-all-reads
 
--- src/print.rt:145:17
 sub-n : tie.Need-sub-n
 sub-n c = search needs
 
--- src/print.rt:147:42
 slice-aggregate-write-all : tie.Need-slice-aggregate-write-all
 slice-aggregate-write-all c = sym (length-take-le (c .before .before .before .before .args .end - 1) (c .before .before .before .before .args .line .now) (omega arith))
 
--- src/print.rt:147:13
 write-all-requires : tie.Need-write-all-requires
 write-all-requires c κs = search needs
 
--- src/print.rt:148:42
 slice-aggregate-write-all-2 : tie.Need-slice-aggregate-write-all-2
 slice-aggregate-write-all-2 c = search needs
 
--- src/print.rt:148:13
 write-all-requires-2 : tie.Need-write-all-requires-2
 write-all-requires-2 c κs = search needs
 
--- src/print.rt:143:1
 returns : tie.Need-returns
 returns c = search needs
 
--- src/print.rt:143:1
 returns-2 : tie.Need-returns-2
 returns-2 c = search needs
 
--- src/print.rt:143:1
 returns-3 : tie.Need-returns-3
 returns-3 c = search needs
 

@@ -1,19 +1,11 @@
+-- `replay::read::state` meets its contract. Assumes nothing.
 use Rattle.vm.specs.declared.VM.{VM}
 use mathlib.Core.Path.{_≡_, ap}
-use lib.ListN.{length, length-set}
+use lib.ListN.{length}
 use Prim.Native.Nat.{_≤_, _-_}
-use native.Mathlib.Omega.{arith}
 use borrow.Author.Needs.{needs}
 use Rattle.replay.proofs.read.state.Statement.{statement}
 use Rattle.replay.proofs.read.state.Tie as tie
-use Rattle.replay.proofs.read.state.Reads as reads
-use Rattle.replay.proofs.read.state.Lts as lts
-use Rattle.replay.proofs.read.compare.Reads as compare-reads
-use Rattle.replay.proofs.read.held.Reads as held-reads
-use Rattle.replay.proofs.read.plus.Reads as plus-reads
-use Rattle.replay.proofs.read.register.Reads as register-reads
-use Rattle.replay.proofs.read.word.Reads as word-reads
-use Rattle.vm.proofs.state.new.Reads as new-reads
 
 abbrev Inv-loop : tie.InvT-loop
 Inv-loop p i s₀ n at₀ k₀ s at k = (k ≤ n) × (length (s .gpr) ≡ 32) × (length (s .cr) ≡ 8)
@@ -21,127 +13,96 @@ Inv-loop p i s₀ n at₀ k₀ s at k = (k ≤ n) × (length (s .gpr) ≡ 32) ×
 abbrev μ-loop : tie.MeasureT-loop
 μ-loop p i s₀ n at₀ k₀ s at k = n - k
 
--- src/read.rt:137:17
 new-requires : tie.Need-new-requires Inv-loop μ-loop
 new-requires c κs = search needs
 
--- src/read.rt:138:9
 word-requires : tie.Need-word-requires Inv-loop μ-loop
 word-requires c κs = search needs
 
--- src/read.rt:139:9
 plus-requires : tie.Need-plus-requires Inv-loop μ-loop
 plus-requires c κs = search needs
 
--- src/read.rt:141:5
 loop-holds : tie.Need-loop-holds Inv-loop μ-loop
 loop-holds c = (search needs, ap (λ (s : VM). length (s .gpr)) (c .before .before .new .ensures), ap (λ (s : VM). length (s .cr)) (c .before .before .new .ensures))
 
--- src/read.rt:142:20
 word-requires-2 : tie.Need-word-requires-2 Inv-loop μ-loop
 word-requires-2 c κs = search needs
 
--- src/read.rt:142:20
 cast-item : tie.Need-cast-item Inv-loop μ-loop
 cast-item c = search needs
 
--- src/read.rt:144:39
 plus-requires-2 : tie.Need-plus-requires-2 Inv-loop μ-loop
 plus-requires-2 c κs = search needs
 
--- src/read.rt:144:27
 register-requires : tie.Need-register-requires Inv-loop μ-loop
 register-requires c κs = search needs
 
--- src/read.rt:144:13
 mul-t15 : tie.Need-mul-t15 Inv-loop μ-loop
 mul-t15 c = search needs
 
--- src/read.rt:144:13
 element-set-from-s : tie.Need-element-set-from-s Inv-loop μ-loop
 element-set-from-s c = search needs
 
--- src/read.rt:145:13
 plus-requires-3 : tie.Need-plus-requires-3 Inv-loop μ-loop
 plus-requires-3 c κs = search needs
 
--- src/read.rt:146:13
 add-k : tie.Need-add-k Inv-loop μ-loop
 add-k c = search needs
 
--- src/read.rt:141:5
 loop-less : tie.Need-loop-less Inv-loop μ-loop
 loop-less c = search needs
 
--- src/read.rt:141:5
 loop-again : tie.Need-loop-again Inv-loop μ-loop
 loop-again c = search needs
 
--- src/read.rt:151:34
 plus-requires-4 : tie.Need-plus-requires-4 Inv-loop μ-loop
 plus-requires-4 c κs = search needs
 
--- src/read.rt:151:23
 compare-requires : tie.Need-compare-requires Inv-loop μ-loop
 compare-requires c κs = search needs
 
--- src/read.rt:151:13
 mul-t20 : tie.Need-mul-t20 Inv-loop μ-loop
 mul-t20 c = search needs
 
--- src/read.rt:151:13
 element-set-from-s-2 : tie.Need-element-set-from-s-2 Inv-loop μ-loop
 element-set-from-s-2 c = search needs
 
--- src/read.rt:152:13
 plus-requires-5 : tie.Need-plus-requires-5 Inv-loop μ-loop
 plus-requires-5 c κs = search needs
 
--- src/read.rt:153:13
 add-k-2 : tie.Need-add-k-2 Inv-loop μ-loop
 add-k-2 c = search needs
 
--- src/read.rt:141:5
 loop-less-2 : tie.Need-loop-less-2 Inv-loop μ-loop
 loop-less-2 c = search needs
 
--- src/read.rt:141:5
 loop-again-2 : tie.Need-loop-again-2 Inv-loop μ-loop
 loop-again-2 c = search needs
 
--- src/read.rt:156:25
 plus-requires-6 : tie.Need-plus-requires-6 Inv-loop μ-loop
 plus-requires-6 c κs = search needs
 
--- src/read.rt:156:13
 held-requires : tie.Need-held-requires Inv-loop μ-loop
 held-requires c κs = search needs
 
--- src/read.rt:157:9
 plus-requires-7 : tie.Need-plus-requires-7 Inv-loop μ-loop
 plus-requires-7 c κs = search needs
 
--- src/read.rt:158:9
 add-k-3 : tie.Need-add-k-3 Inv-loop μ-loop
 add-k-3 c = search needs
 
--- src/read.rt:141:5
 loop-less-3 : tie.Need-loop-less-3 Inv-loop μ-loop
 loop-less-3 c = search needs
 
--- src/read.rt:141:5
 loop-again-3 : tie.Need-loop-again-3 Inv-loop μ-loop
 loop-again-3 c = search needs
 
--- src/read.rt:141:5
 loop-less-4 : tie.Need-loop-less-4 Inv-loop μ-loop
 loop-less-4 c = search needs
 
--- src/read.rt:141:5
 loop-again-4 : tie.Need-loop-again-4 Inv-loop μ-loop
 loop-again-4 c = search needs
 
--- src/read.rt:136:1
 returns : tie.Need-returns Inv-loop μ-loop
 returns c = search needs
 

@@ -1,13 +1,10 @@
+-- `replay::states::compares` meets its contract. Assumes nothing.
 use Prim.Native.Nat.{_≤_, _-_}
 use mathlib.Core.Path.{_≡_}
 use lib.ListN.{length}
-use native.Mathlib.Omega.{arith}
 use borrow.Author.Needs.{needs}
 use Rattle.replay.proofs.states.compares.Statement.{statement}
 use Rattle.replay.proofs.states.compares.Tie as tie
-use Rattle.replay.proofs.states.compares.Reads as reads
-use Rattle.replay.proofs.states.compares.Lts as lts
-use Rattle.replay.proofs.states.compare_item.Reads as compare-item-reads
 
 abbrev Inv-loop : tie.InvT-loop
 Inv-loop line₀ at s at₀ k₀ line at' k = (k ≤ 8) × (length line ≡ length line₀)
@@ -15,47 +12,36 @@ Inv-loop line₀ at s at₀ k₀ line at' k = (k ≤ 8) × (length line ≡ leng
 abbrev μ-loop : tie.MeasureT-loop
 μ-loop line₀ at s at₀ k₀ line at' k = 8 - k
 
--- src/states.rt:110:5
 loop-holds : tie.Need-loop-holds Inv-loop μ-loop
 loop-holds c = search needs
 
--- src/states.rt:111:37
 cast-compare-item : tie.Need-cast-compare-item Inv-loop μ-loop
 cast-compare-item c = search needs
 
--- src/states.rt:111:37
 add-compare-item : tie.Need-add-compare-item Inv-loop μ-loop
 add-compare-item c = search needs
 
--- src/states.rt:111:52
 mul-compare-item : tie.Need-mul-compare-item Inv-loop μ-loop
 mul-compare-item c = search needs
 
--- src/states.rt:111:52
 element-copy-out-compare-item : tie.Need-element-copy-out-compare-item Inv-loop μ-loop
 element-copy-out-compare-item c = search needs
 
--- src/states.rt:111:9
 compare-item-requires : tie.Need-compare-item-requires Inv-loop μ-loop
 compare-item-requires c κs = search needs
 
--- src/states.rt:112:9
 add-k : tie.Need-add-k Inv-loop μ-loop
 add-k c = search needs
 
--- src/states.rt:110:5
 loop-less : tie.Need-loop-less Inv-loop μ-loop
 loop-less c = search needs
 
--- src/states.rt:110:5
 loop-again : tie.Need-loop-again Inv-loop μ-loop
 loop-again c = search needs
 
--- src/states.rt:107:1
 same-length : tie.Need-same-length Inv-loop μ-loop
 same-length c = search needs
 
--- src/states.rt:107:1
 returns : tie.Need-returns Inv-loop μ-loop
 returns c = search needs
 

@@ -1,13 +1,8 @@
+-- `replay::states::known_compares` meets its contract. Assumes nothing.
 use Prim.Native.Nat.{_≤_, _-_}
-use native.Mathlib.Omega.{arith}
 use borrow.Author.Needs.{needs}
 use Rattle.replay.proofs.states.known_compares.Statement.{statement}
 use Rattle.replay.proofs.states.known_compares.Tie as tie
-use Rattle.replay.proofs.states.known_compares.Reads as reads
-use Rattle.replay.proofs.states.known_compares.Lts as lts
-use Rattle.replay.proofs.states.is_unset.Reads as is-unset-reads
-use Rattle.replay.proofs.states.one_unless.Reads as one-unless-reads
-use Rattle.words.proofs.sum.wrapping_add.Reads as wrapping-add-reads
 
 abbrev Inv-loop : tie.InvT-loop
 Inv-loop s n₀ k₀ n k = k ≤ 8
@@ -15,43 +10,33 @@ Inv-loop s n₀ k₀ n k = k ≤ 8
 abbrev μ-loop : tie.MeasureT-loop
 μ-loop s n₀ k₀ n k = 8 - k
 
--- src/states.rt:61:5
 loop-holds : tie.Need-loop-holds Inv-loop μ-loop
 loop-holds c = search needs
 
--- src/states.rt:62:61
 mul-is-unset : tie.Need-mul-is-unset Inv-loop μ-loop
 mul-is-unset c = search needs
 
--- src/states.rt:62:61
 element-copy-out-is-unset : tie.Need-element-copy-out-is-unset Inv-loop μ-loop
 element-copy-out-is-unset c = search needs
 
--- src/states.rt:62:52
 is-unset-requires : tie.Need-is-unset-requires Inv-loop μ-loop
 is-unset-requires c κs = search needs
 
--- src/states.rt:62:41
 one-unless-requires : tie.Need-one-unless-requires Inv-loop μ-loop
 one-unless-requires c κs = search needs
 
--- src/states.rt:62:9
 wrapping-add-requires : tie.Need-wrapping-add-requires Inv-loop μ-loop
 wrapping-add-requires c κs = search needs
 
--- src/states.rt:63:9
 add-k : tie.Need-add-k Inv-loop μ-loop
 add-k c = search needs
 
--- src/states.rt:61:5
 loop-less : tie.Need-loop-less Inv-loop μ-loop
 loop-less c = search needs
 
--- src/states.rt:61:5
 loop-again : tie.Need-loop-again Inv-loop μ-loop
 loop-again c = search needs
 
--- src/states.rt:58:1
 returns : tie.Need-returns Inv-loop μ-loop
 returns c = search needs
 

@@ -1,13 +1,8 @@
+-- `replay::states::known_registers` meets its contract. Assumes nothing.
 use Prim.Native.Nat.{_≤_, _-_}
-use native.Mathlib.Omega.{arith}
 use borrow.Author.Needs.{needs}
 use Rattle.replay.proofs.states.known_registers.Statement.{statement}
 use Rattle.replay.proofs.states.known_registers.Tie as tie
-use Rattle.replay.proofs.states.known_registers.Reads as reads
-use Rattle.replay.proofs.states.known_registers.Lts as lts
-use Rattle.replay.proofs.states.is_blank.Reads as is-blank-reads
-use Rattle.replay.proofs.states.one_unless.Reads as one-unless-reads
-use Rattle.words.proofs.sum.wrapping_add.Reads as wrapping-add-reads
 
 abbrev Inv-loop : tie.InvT-loop
 Inv-loop s n₀ i₀ n i = i ≤ 32
@@ -15,43 +10,33 @@ Inv-loop s n₀ i₀ n i = i ≤ 32
 abbrev μ-loop : tie.MeasureT-loop
 μ-loop s n₀ i₀ n i = 32 - i
 
--- src/states.rt:50:5
 loop-holds : tie.Need-loop-holds Inv-loop μ-loop
 loop-holds c = search needs
 
--- src/states.rt:51:61
 mul-is-blank : tie.Need-mul-is-blank Inv-loop μ-loop
 mul-is-blank c = search needs
 
--- src/states.rt:51:61
 element-copy-out-is-blank : tie.Need-element-copy-out-is-blank Inv-loop μ-loop
 element-copy-out-is-blank c = search needs
 
--- src/states.rt:51:52
 is-blank-requires : tie.Need-is-blank-requires Inv-loop μ-loop
 is-blank-requires c κs = search needs
 
--- src/states.rt:51:41
 one-unless-requires : tie.Need-one-unless-requires Inv-loop μ-loop
 one-unless-requires c κs = search needs
 
--- src/states.rt:51:9
 wrapping-add-requires : tie.Need-wrapping-add-requires Inv-loop μ-loop
 wrapping-add-requires c κs = search needs
 
--- src/states.rt:52:9
 add-i : tie.Need-add-i Inv-loop μ-loop
 add-i c = search needs
 
--- src/states.rt:50:5
 loop-less : tie.Need-loop-less Inv-loop μ-loop
 loop-less c = search needs
 
--- src/states.rt:50:5
 loop-again : tie.Need-loop-again Inv-loop μ-loop
 loop-again c = search needs
 
--- src/states.rt:47:1
 returns : tie.Need-returns Inv-loop μ-loop
 returns c = search needs
 
