@@ -4,6 +4,5 @@ pub mod Blank
 pub mod Judging
 pub mod Masks
 pub mod Targets
-pub mod Turns
 pub mod Laws
 pub mod Cases

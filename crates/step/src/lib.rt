@@ -7,7 +7,6 @@ ghost use Rattle.step.specs.Step.{steppedOf, refusedOf};
 pub mod arms;
 pub mod done;
 pub mod records;
-pub mod runs;
 pub mod ways;
 
 use decoder::Writes;

@@ -24,7 +24,7 @@ fn repeat(im: &[u32], code: &[u8], turns: u32) -> u32
     let mut stopped: u32 = 0;
     let mut k: u32 = 0;
     while k < turns {
-        let r = step::runs::run(im, code, start, vm::state::new());
+        let r = runs::run(im, code, start, vm::state::new());
         let at = r.at;
         stopped = at.address;
         k += 1;

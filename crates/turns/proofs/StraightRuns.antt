@@ -117,6 +117,6 @@ module _ (ws bs : List ℕ) (from : SectionAddress) (upto : MaybeAddress) (slots
   whole q e n f =
       rw (← e) (run-from n 0 s (omega (arith, whole-words ws bs fine p word)) (omega (arith, below-end ws bs fine p word)) none-gone)
 
-  -- the whole run, as `step::runs::run` answers it
+  -- the whole run, as `runs::run` answers it
   pub straight-run : Ran (groundOf ws bs from upto slots) p s v (runOf ws (dataFrom ws bs p) 0 (length (dataFrom ws bs p) / 4) p s)
   straight-run = whole p no-words-on (length (dataFrom ws bs p) / 4) (ap (λ (n : ℕ). n / 4) (code-length ws bs fine p word))

@@ -1,4 +1,4 @@
--- `step::runs::run` meets its contract. The invariant is `Running`: from here the run comes to its end. One law for each way that a turn ends.
+-- `runs::run` meets its contract. The invariant is `Running`: from here the run comes to its end. One law for each way that a turn ends.
 -- Assumes nothing.
 use mathlib.Core.Path.{refl}
 use Prim.Native.Nat.{_-_, _/_}
@@ -6,14 +6,14 @@ use borrow.Author.Needs.{needs}
 use lib.ListN.{length, length-set}
 use Rattle.vm.specs.Registers.{blank}
 use Rattle.vm.proofs.Shape.{gprs, crs}
 use Rattle.step.specs.Arms.{rD, rA, accessOf, effectBy}
 use Rattle.step.specs.Step.{clearedOf, doneOf}
 use Rattle.step.specs.Runs.{runOf}
 use Rattle.step.proofs.Blank.{blank-never, blank-one, blank-two}
 use Rattle.step.proofs.Masks.{masked}
-use Rattle.step.proofs.Turns.{Running, run-starts, step-on, step-off, run-ends, on-set-d, on-set-a, on-load, on-store}
-use Rattle.step.proofs.runs.run.Statement.{statement}
-use Rattle.step.proofs.runs.run.Tie as tie
+use Rattle.runs.proofs.Running.{Running, run-starts, step-on, step-off, run-ends, on-set-d, on-set-a, on-load, on-store}
+use Rattle.runs.proofs.run.Statement.{statement}
+use Rattle.runs.proofs.run.Tie as tie
 
 abbrev Inv-loop : tie.InvT-loop
 Inv-loop im code t₀ p₀ i₀ t p i = Running im code (runOf im code 0 (length code / 4) p₀ t₀) i p t

@@ -1,0 +1,2 @@
+-- The laws of a straight run.
+pub mod Running
