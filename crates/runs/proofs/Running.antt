@@ -28,6 +28,7 @@ use Rattle.step.specs.Arms.{rD, rA, rB, seenAt, effectOf}
 use Rattle.step.specs.Ways.{biOf, leaveOf, leftOf}
 use Rattle.step.specs.Step.{accessResult, doneOf, effectIn, stepOf}
 use Rattle.step.specs.Runs.{onGoing, leaveBy, stoppedAt, runOf}
+use Rattle.step.proofs.Effects.{effect-here}
 
 -- leaving never goes on
 pub left-stops : {A : Type 0} (l : Leave) (at : SectionAddress) (s : VM) (go stop : A) → onGoing (leftOf l at s .result) go stop ≡ stop
@@ -74,19 +75,6 @@ straight-goes (Load g seen) ws at w s go stop h = access-goes seen g w go stop
 straight-goes (Store g seen) ws at w s go stop h = access-goes seen g w go stop
 straight-goes (Clear k) ws at w s go stop h = refl
 straight-goes (Leaves way) ws at w s go stop h = absurd h
-
--- the effect that the code has found is the word's own
-effect-here : (ws : List ℕ) (at : SectionAddress) (w : ℕ) (s : VM) {d a b : ℕ} {dec : Decoded} {e x : Effect}
-    → d ≡ rD w → a ≡ rA w → b ≡ rB w → dec ≡ decoded w → e ≡ effectOf dec ws at w (reg s d) (reg s a) (reg s b) → e ≡ x
-    → effectIn ws at w s ≡ x
-effect-here ws at w s ed ea eb edec ee ex = sym (rw (edec, ed, ea, eb) at ee) ∙ ex
-
--- a step, by the effect that the code has found
-pub step-by : (ws : List ℕ) (at : SectionAddress) (w : ℕ) (s : VM) {d a b : ℕ} {dec : Decoded} {e x : Effect}
-    → d ≡ rD w → a ≡ rA w → b ≡ rB w → dec ≡ decoded w → e ≡ effectOf dec ws at w (reg s d) (reg s a) (reg s b) → e ≡ x
-    → doneOf x ws at w s ≡ stepOf ws at w s
-unfolding stepOf
-step-by ws at w s ed ea eb edec ee ex = sym (ap (λ (y : Effect). doneOf y ws at w s) (effect-here ws at w s ed ea eb edec ee ex))
 
 -- what a run does after a word with this effect
 abbrev turned : Effect → List ℕ → List ℕ → ℕ → ℕ → SectionAddress → VM → Stopped

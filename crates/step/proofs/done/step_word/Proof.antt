@@ -2,7 +2,7 @@
 -- Assumes nothing.
 use borrow.Author.Needs.{needs}
 use Rattle.step.specs.Step.{doneOf}
-use Rattle.step.proofs.Turns.{step-by}
+use Rattle.step.proofs.Effects.{step-by}
 use Rattle.step.proofs.done.step_word.Statement.{statement}
 use Rattle.step.proofs.done.step_word.Tie as tie
 
