@@ -6,6 +6,7 @@ use step::Branch;
 use step::Refusal;
 use step::StepResult;
 use step::Stepped;
+use vm::BranchTarget;
 use vm::Gpr;
 use vm::VM;
 
@@ -35,37 +36,24 @@ pub fn stepped(line: &mut [u32], at: usize, r: Stepped, before: VM) -> usize {
 // The outcome and what follows it; of Illegal, Jump and Branch the state after is the one before.
 pub fn found(line: &mut [u32], at: usize, r: Stepped, before: VM) -> usize {
     let result = r.result;
-    let vm = r.vm;
-    let other = r.other;
     match result {
         StepResult::Refused(_) => at,
-        StepResult::Continue => with_state(line, at, 0, vm),
+        StepResult::Continue => continued(line, at, r),
         StepResult::LoadStore {
             address,
             source,
             source_reg,
-        } => {
-            let at = print::word(line, at, 1);
-            accessed(line, at, address, source, source_reg, vm)
-        }
-        StepResult::Illegal => with_state(line, at, 2, before),
-        StepResult::Jump(t) => {
-            let at = print::word(line, at, 3);
-            let at = print::branch_target(line, at, t);
-            states::state(line, at, before)
-        }
-        StepResult::Branch { first, second } => {
-            let at = print::word(line, at, 4);
-            let at = branch(line, at, first, vm);
-            let at = branch(line, at, second, other);
-            states::state(line, at, before)
-        }
+        } => accessed(line, at, address, source, source_reg, r),
+        StepResult::Illegal => illegal(line, at, before),
+        StepResult::Jump(t) => jump(line, at, t, before),
+        StepResult::Branch { first, second } => branches(line, at, first, second, r, before),
     }
 }
 
-fn with_state(line: &mut [u32], at: usize, n: u32, s: VM) -> usize {
-    let at = print::word(line, at, n);
-    states::state(line, at, s)
+fn continued(line: &mut [u32], at: usize, r: Stepped) -> usize {
+    let after = r.vm;
+    let at = print::word(line, at, 0);
+    states::state(line, at, after)
 }
 
 fn accessed(
@@ -74,12 +62,45 @@ fn accessed(
     address: RelocationTarget,
     source: Gpr,
     source_reg: u8,
-    s: VM,
+    r: Stepped,
 ) -> usize {
-    let at = print::target(line, at, address);
-    let at = print::register(line, at, source);
+    let after = r.vm;
+    let at = reached(line, at, address, source);
     let at = print::word(line, at, source_reg as u32);
-    states::state(line, at, s)
+    states::state(line, at, after)
+}
+
+fn reached(line: &mut [u32], at: usize, address: RelocationTarget, source: Gpr) -> usize {
+    let at = print::word(line, at, 1);
+    let at = print::target(line, at, address);
+    print::register(line, at, source)
+}
+
+fn illegal(line: &mut [u32], at: usize, before: VM) -> usize {
+    let at = print::word(line, at, 2);
+    states::state(line, at, before)
+}
+
+fn jump(line: &mut [u32], at: usize, t: BranchTarget, before: VM) -> usize {
+    let at = print::word(line, at, 3);
+    let at = print::branch_target(line, at, t);
+    states::state(line, at, before)
+}
+
+fn branches(
+    line: &mut [u32],
+    at: usize,
+    first: Branch,
+    second: Branch,
+    r: Stepped,
+    before: VM,
+) -> usize {
+    let vm = r.vm;
+    let other = r.other;
+    let at = print::word(line, at, 4);
+    let at = branch(line, at, first, vm);
+    let at = branch(line, at, second, other);
+    states::state(line, at, before)
 }
 
 fn branch(line: &mut [u32], at: usize, b: Branch, s: VM) -> usize {

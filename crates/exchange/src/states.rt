@@ -1,5 +1,6 @@
-// A state in an answer: the items that differ from the default, counted first.
+// A state in an answer: the items that differ from the default, their count in front.
 use crate::print;
+use crate::read::plus;
 use places::MaybeAddress;
 use vm::Cr;
 use vm::Gpr;
@@ -39,103 +40,82 @@ fn is_unset(c: Cr) -> bool {
     no_left & no_right & !c.signed
 }
 
-fn one_unless(b: bool) -> u32 {
-    if b { 0 } else { 1 }
+// Where the next item stands, and how many there are before it.
+struct Items {
+    at: usize,
+    count: u32,
 }
 
-// How many registers have an item.
-fn known_registers(s: VM) -> u32 {
-    let mut n: u32 = 0;
-    let mut i: usize = 0;
-    while i < 32 {
-        n = words::sum::wrapping_add(n, one_unless(is_blank(s.gpr[i])));
-        i += 1;
+// One item more, which ends at a word.
+fn one_more(t: Items, at: usize) -> Items {
+    Items {
+        at,
+        count: words::sum::wrapping_add(t.count, 1),
     }
-    n
 }
 
-// How many compare records have one.
-fn known_compares(s: VM) -> u32 {
-    let mut n: u32 = 0;
-    let mut k: usize = 0;
-    while k < 8 {
-        n = words::sum::wrapping_add(n, one_unless(is_unset(s.cr[k])));
-        k += 1;
-    }
-    n
-}
-
-fn one_if_held(h: Held) -> u32 {
-    let v = h.value;
-    one_unless(is_unknown(v))
-}
-
-// How many items the state has.
-fn items(s: VM) -> u32 {
-    let lr = s.lr;
-    let ctr = s.ctr;
-    let both = words::sum::wrapping_add(one_if_held(lr), one_if_held(ctr));
-    words::sum::wrapping_add(
-        words::sum::wrapping_add(known_registers(s), known_compares(s)),
-        both,
-    )
-}
-
-fn register_item(line: &mut [u32], at: usize, item: u32, g: Gpr) -> usize {
+fn register_item(line: &mut [u32], t: Items, item: u32, g: Gpr) -> Items {
     if is_blank(g) {
-        return at;
+        return t;
     }
-    let at = print::word(line, at, item);
-    print::register(line, at, g)
+    let at = print::word(line, t.at, item);
+    one_more(t, print::register(line, at, g))
 }
 
-fn registers(line: &mut [u32], at: usize, s: VM) -> usize {
-    let mut at = at;
+fn registers(line: &mut [u32], t: Items, s: VM) -> Items {
+    let mut t = t;
     let mut i: usize = 0;
     while i < 32 {
-        at = register_item(line, at, i as u32, s.gpr[i]);
+        t = register_item(line, t, i as u32, s.gpr[i]);
         i += 1;
     }
-    at
+    t
 }
 
-fn compare_item(line: &mut [u32], at: usize, item: u32, c: Cr) -> usize {
+fn compare_item(line: &mut [u32], t: Items, item: u32, c: Cr) -> Items {
     if is_unset(c) {
-        return at;
+        return t;
     }
-    let at = print::word(line, at, item);
-    print::compare(line, at, c)
+    let at = print::word(line, t.at, item);
+    one_more(t, print::compare(line, at, c))
 }
 
-fn compares(line: &mut [u32], at: usize, s: VM) -> usize {
-    let mut at = at;
+fn compares(line: &mut [u32], t: Items, s: VM) -> Items {
+    let mut t = t;
     let mut k: usize = 0;
     while k < 8 {
-        at = compare_item(line, at, k as u32 + 32, s.cr[k]);
+        t = compare_item(line, t, k as u32 + 32, s.cr[k]);
         k += 1;
     }
-    at
+    t
 }
 
-fn held(line: &mut [u32], at: usize, item: u32, h: Held) -> usize {
+fn held_item(line: &mut [u32], t: Items, item: u32, h: Held) -> Items {
     let v = h.value;
     if is_unknown(v) {
-        return at;
+        return t;
     }
-    let at = print::word(line, at, item);
-    print::value(line, at, v)
+    let at = print::word(line, t.at, item);
+    one_more(t, print::value(line, at, v))
 }
 
-pub fn state(line: &mut [u32], at: usize, s: VM) -> usize {
+// The items of a state that differ from the default.
+fn all_items(line: &mut [u32], t: Items, s: VM) -> Items {
     let lr = s.lr;
     let ctr = s.ctr;
-    let at = print::word(line, at, items(s));
-    let at = records(line, at, s);
-    let at = held(line, at, 40, lr);
-    held(line, at, 41, ctr)
+    let t = registers(line, t, s);
+    let t = compares(line, t, s);
+    let t = held_item(line, t, 40, lr);
+    held_item(line, t, 41, ctr)
 }
 
-fn records(line: &mut [u32], at: usize, s: VM) -> usize {
-    let at = registers(line, at, s);
-    compares(line, at, s)
+// A state: how many items it has, and the items.
+pub fn state(line: &mut [u32], at: usize, s: VM) -> usize {
+    let first = Items {
+        at: plus(at, 1),
+        count: 0,
+    };
+    let t = all_items(line, first, s);
+    print::word(line, at, t.count);
+    t.at
 }

@@ -7,10 +7,10 @@ use Rattle.exchange.proofs.states.compares.Statement.{statement}
 use Rattle.exchange.proofs.states.compares.Tie as tie
 
 abbrev Inv-loop : tie.InvT-loop
-Inv-loop line₀ at s at₀ k₀ line at' k = (k ≤ 8) × (length line ≡ length line₀)
+Inv-loop line₀ s t₀ k₀ line t k = (k ≤ 8) × (length line ≡ length line₀)
 
 abbrev μ-loop : tie.MeasureT-loop
-μ-loop line₀ at s at₀ k₀ line at' k = 8 - k
+μ-loop line₀ s t₀ k₀ line t k = 8 - k
 
 loop-holds : tie.Need-loop-holds Inv-loop μ-loop
 loop-holds c = search needs

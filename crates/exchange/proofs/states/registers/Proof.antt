@@ -7,10 +7,10 @@ use Rattle.exchange.proofs.states.registers.Statement.{statement}
 use Rattle.exchange.proofs.states.registers.Tie as tie
 
 abbrev Inv-loop : tie.InvT-loop
-Inv-loop line₀ at s at₀ i₀ line at' i = (i ≤ 32) × (length line ≡ length line₀)
+Inv-loop line₀ s t₀ i₀ line t i = (i ≤ 32) × (length line ≡ length line₀)
 
 abbrev μ-loop : tie.MeasureT-loop
-μ-loop line₀ at s at₀ i₀ line at' i = 32 - i
+μ-loop line₀ s t₀ i₀ line t i = 32 - i
 
 loop-holds : tie.Need-loop-holds Inv-loop μ-loop
 loop-holds c = search needs
