@@ -1,5 +1,6 @@
 // The answer to each kind of case, as docs/FORMATS.md lays it out.
 use crate::asked;
+use crate::rooms;
 use decoder::Op;
 use exchange::file;
 use exchange::print;
@@ -9,14 +10,7 @@ use jump_tables::Table;
 use jump_tables::TableAnswer;
 
 // Writes the answer into the line and answers where it ends.
-pub(crate) fn answer(
-    kind: u32,
-    p: &[u32],
-    im: &[u32],
-    data: &[u8],
-    entries: &mut [u64],
-    line: &mut [u32],
-) -> usize {
+pub(crate) fn answer(kind: u32, p: &[u32], im: &[u32], data: &[u8], line: &mut [u32]) -> usize {
     match kind {
         1 => file::judged(im, data, line),
         2 => decode(p, line),
@@ -33,7 +27,7 @@ pub(crate) fn answer(
         5 => branch_dest(p, line),
         6 => asked::lookup(p, im, data, line),
         7 => step(p, im, data, line),
-        8 => table(p, im, data, entries, line),
+        8 => table(p, im, data, line),
         _ => 0,
     }
 }
@@ -146,7 +140,12 @@ fn fill(entries: &mut [u64], key: u64) {
     }
 }
 
-fn table(p: &[u32], im: &[u32], data: &[u8], entries: &mut [u64], line: &mut [u32]) -> usize {
+fn table(p: &[u32], im: &[u32], data: &[u8], line: &mut [u32]) -> usize {
+    let mut room = rooms::entries();
+    table_with(p, im, data, &mut room, line)
+}
+
+fn table_with(p: &[u32], im: &[u32], data: &[u8], entries: &mut [u64], line: &mut [u32]) -> usize {
     let asked = read::word(p, 8) as usize;
     let word = read::word(p, 9) as u64;
     let key = word * 0x1_0000_0000 + word;

@@ -6,6 +6,7 @@ mod rooms;
 
 use exchange::file;
 use exchange::file::Current;
+use exchange::file::Head;
 
 // More records than any file has: the loop over them has to end.
 const MOST_RECORDS: usize = 100000000;
@@ -19,49 +20,45 @@ fn answered(
     words: usize,
     data: &[u8],
     bytes: usize,
-    entries: &mut [u64],
     line: &mut [u32],
 ) -> usize {
     if n <= payload.len() {
         if words <= im.len() {
             if bytes <= data.len() {
-                return answers::answer(
-                    kind,
-                    &payload[..n],
-                    &im[..words],
-                    &data[..bytes],
-                    entries,
-                    line,
-                );
+                return answers::answer(kind, &payload[..n], &im[..words], &data[..bytes], line);
             }
         }
     }
     0
 }
 
-// Answers each record in turn.
-fn run(
+// Answers one record and hands on the current image.
+fn one_record(
+    h: Head,
     raw: &mut [u8],
     payload: &mut [u32],
     im: &mut [u32],
     data: &mut [u8],
-    entries: &mut [u64],
     line: &mut [u32],
-) {
-    let mut words: usize = 0;
-    let mut bytes: usize = 0;
+    before: Current,
+) -> Current {
+    let n = file::next_payload(raw, payload, h.length);
+    let now = file::advance(h.kind, payload, n, im, data, before);
+    let end = answered(h.kind, payload, n, im, now.words, data, now.bytes, line);
+    file::flush(line, end, raw);
+    now
+}
+
+// Answers each record in turn.
+fn run(raw: &mut [u8], payload: &mut [u32], im: &mut [u32], data: &mut [u8], line: &mut [u32]) {
+    let mut now = Current { words: 0, bytes: 0 };
     let mut left: usize = MOST_RECORDS;
     while 0 < left {
         let h = file::next_head();
         if !h.there {
             return;
         }
-        let n = file::next_payload(raw, payload, h.length);
-        let now = file::advance(h.kind, payload, n, im, data, Current { words, bytes });
-        words = now.words;
-        bytes = now.bytes;
-        let end = answered(h.kind, payload, n, im, words, data, bytes, entries, line);
-        file::flush(line, end, raw);
+        now = one_record(h, raw, payload, im, data, line, now);
         left -= 1;
     }
 }
@@ -71,14 +68,6 @@ fn main() {
     let mut payload = exchange::rooms::payload();
     let mut im = exchange::rooms::image();
     let mut data = exchange::rooms::bytes();
-    let mut entries = rooms::entries();
     let mut line = exchange::rooms::line();
-    run(
-        &mut raw,
-        &mut payload,
-        &mut im,
-        &mut data,
-        &mut entries,
-        &mut line,
-    );
+    run(&mut raw, &mut payload, &mut im, &mut data, &mut line);
 }

@@ -1,10 +1,10 @@
--- `replay::answers::table` meets its contract. Assumes nothing.
+-- `replay::answers::table_with` meets its contract. Assumes nothing.
 use lib.Seq.{length-take-le}
 use mathlib.Core.Path.{sym}
 use native.Mathlib.Omega.{arith}
 use borrow.Author.Needs.{needs}
-use Rattle.replay.proofs.answers.table.Statement.{statement}
-use Rattle.replay.proofs.answers.table.Tie as tie
+use Rattle.replay.proofs.answers.table_with.Statement.{statement}
+use Rattle.replay.proofs.answers.table_with.Tie as tie
 
 word-requires : tie.Need-word-requires
 word-requires c κs = search needs
@@ -54,8 +54,8 @@ same-length-4 c = search needs
 returns-2 : tie.Need-returns-2
 returns-2 c = search needs
 
-pub table-spec : {M : Type 1} → statement M
-table-spec =
+pub table-with-spec : {M : Type 1} → statement M
+table-with-spec =
     tie.close
     (tie.spec
     word-requires
