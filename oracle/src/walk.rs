@@ -1,5 +1,7 @@
 //! Executor scripts and walks: executor.rs, driven from the outside, and around it what document 01 adds: the stack's
 //! room (5), the map's length (4), judged pushes and replies, the walk's own rules.
+use std::collections::BTreeSet;
+
 use plants::on;
 
 use crate::{
@@ -150,7 +152,7 @@ impl Script<'_, '_> {
                     let (kind, place) = (self.p.one(), self.p.place());
                     let changed = (self.p.one() == 1).then(|| self.p.state());
                     let number = match &waits {
-                        _ if self.short => 4,
+                        _ if self.short && !(on(96) && !waiting) => 4,
                         None => 11,
                         _ if !waiting => 11,
                         Some((_, at)) if kind == 1 && place.section != at.section => 6,
@@ -158,10 +160,12 @@ impl Script<'_, '_> {
                         _ => 0,
                     };
                     self.out.push(number);
-                    if let (0, Some((vm, _))) = (number, &mut waits) {
-                        if let Some(changed) = changed {
-                            **vm = *changed;
-                        }
+                    if let (Some((vm, _)), Some(changed)) = (&mut waits, changed)
+                        && (number == 0 || on(97))
+                    {
+                        **vm = *changed;
+                    }
+                    if number == 0 {
                         reply = Some(match kind {
                             0 => Reply::Continue,
                             1 => Reply::Jump(place),
@@ -266,11 +270,14 @@ struct Counts {
     blocks: u64,
     read: u64,
     not_read: u64,
-    /// Of those not read, the External ones; and states pushed for linked branches.
-    external: u64,
-    linked: u64,
-    /// The most distinct entries of a table.
-    entries: usize,
+    /// What happened on the way, for the classes.
+    seen: BTreeSet<String>,
+}
+
+impl Counts {
+    fn saw(&mut self, what: &str) {
+        self.seen.insert(what.to_string());
+    }
 }
 
 struct Walk<'a> {
@@ -297,25 +304,44 @@ impl Walk<'_> {
     fn follow(&mut self, executor: &mut Executor, target: &BranchTarget, vm: &VM) -> Option<()> {
         match target {
             BranchTarget::Address(RelocationTarget::Address(place)) if judge_place(self.obj, *place) == 0 => {
-                self.push(executor, *place, vm)
+                let pushed = self.push(executor, *place, vm);
+                self.counts.saw(if pushed.is_some() { "a target pushed" } else { "5 at a target" });
+                pushed
+            }
+            BranchTarget::Address(target) => {
+                let address = matches!(target, RelocationTarget::Address(_));
+                self.counts.saw(if address { "a target that is no code word" } else { "an External target" });
+                Some(())
             }
             BranchTarget::JumpTable { address: RelocationTarget::External, .. } => {
                 self.counts.not_read += !on(86) as u64;
-                self.counts.external += 1;
+                self.counts.saw("an External table");
                 Some(())
             }
             BranchTarget::JumpTable { address: RelocationTarget::Address(table), size } => {
                 let read = entries(self.obj, *table, *size, self.start, self.end);
-                self.counts.entries = read.iter().map(|r| r.0.len()).fold(self.counts.entries, usize::max);
+                let how = if size.is_some() { "with a size" } else { "with no size" };
+                match &read {
+                    Ok((found, _)) if found.len() > TABLE_ENTRIES => {
+                        self.counts.saw("a table of more than 1,024 entries")
+                    }
+                    Ok((found, _)) if found.len() == TABLE_ENTRIES => self.counts.saw("a table of 1,024 entries"),
+                    Ok((found, _)) if found.is_empty() => self.counts.saw(&format!("a table {how} without entries")),
+                    Ok(_) => self.counts.saw(&format!("a table {how} read")),
+                    Err(number) => self.counts.saw(&format!("a table {how} refused by {number}")),
+                }
                 match read {
                     Ok((found, _))
                         if found.len() + on(91) as usize <= TABLE_ENTRIES + on(92) as usize * 999
-                            && !(on(87) && found.is_empty()) =>
+                            && !(on(87) && found.is_empty() || on(93) && size.is_none()) =>
                     {
                         self.counts.read += 1;
                         for place in found {
-                            if judge_place(self.obj, place) == 0 {
-                                self.push(executor, place, vm)?;
+                            if judge_place(self.obj, place) != 0 {
+                                self.counts.saw("an entry that is no code word");
+                            } else if self.push(executor, place, vm).is_none() {
+                                self.counts.saw("5 at an entry");
+                                return None;
                             }
                         }
                     }
@@ -342,14 +368,24 @@ impl Walk<'_> {
             {
                 return ExecCbResult::Jump(*place);
             }
-            StepResult::Jump(target) => self.follow(data.executor, target, data.vm),
+            StepResult::Jump(BranchTarget::Address(_)) if on(98) => Some(()),
+            StepResult::Jump(target) => {
+                let held = data.executor.vm_stack.len();
+                let followed = self.follow(data.executor, target, data.vm);
+                if matches!(target, BranchTarget::Address(_)) && data.executor.vm_stack.len() > held {
+                    self.counts.saw("a jump into another section");
+                }
+                followed
+            }
             StepResult::Branch(branches) => branches.iter().try_for_each(|b| {
                 if on(77) && b.link {
                     return Some(());
                 }
                 let held = data.executor.vm_stack.len();
                 self.follow(data.executor, &b.target, &b.vm)?;
-                self.counts.linked += (b.link && data.executor.vm_stack.len() > held) as u64;
+                if b.link && data.executor.vm_stack.len() > held {
+                    self.counts.saw("a linked target pushed");
+                }
                 Some(())
             }),
         };
@@ -390,6 +426,9 @@ fn run_walk(current: &Image, p: &mut Words) -> (Vec<u32>, Counts) {
     let mut executor = Executor::new(obj);
     let fresh = VM::new_with_base(r2, r13);
     let mut pushed = starts.iter().try_for_each(|s| w.push(&mut executor, *s, &fresh));
+    if pushed.is_none() {
+        w.counts.saw("5 at a start");
+    }
     // "run until the stack is empty, also past Ended"
     while pushed.is_some() && !executor.vm_stack.is_empty() {
         if let Ok(Some(())) = executor.run(obj, |data| Ok(w.turn(data))) {
@@ -533,18 +572,8 @@ fn skip_result(a: &mut Words) {
 
 pub fn walk_classes(out: &mut Vec<String>, current: &Image, p: &mut Words, answer: &[u32]) {
     let counts = run_walk(current, &mut Words::new(p.left)).1;
-    if counts.external > 0 {
-        put!(out, "walk: an External table");
-    }
-    if counts.entries >= TABLE_ENTRIES {
-        put!(
-            out,
-            "walk: a table of {} entries",
-            if counts.entries == TABLE_ENTRIES { "1,024" } else { "more than 1,024" }
-        );
-    }
-    if counts.linked > 0 {
-        put!(out, "walk: a linked target pushed");
+    for what in &counts.seen {
+        put!(out, "walk: {what}");
     }
     let (slots, count, fill) = (p.one(), p.one(), p.one());
     let (r2, _, r13, _) = (p.one(), p.one(), p.one(), p.one());
