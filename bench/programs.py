@@ -27,8 +27,8 @@ IMAGES = [('lua', 'lua', 1), ('zlib', 'zlib', 1), ('bzip2', 'bzip2', 1), ('zlib.
           ('lua x2', 'lua', 2), ('lua x4', 'lua', 4)]
 # The first copy's address, and how far apart copies stand.
 BASE, APART = 0x80000000, 0x100000
-# Room for waiting states.
-SLOTS = 16384
+# Room for waiting states: what crates/walk_bench has.
+SLOTS = 5120
 
 def run(*command, **more):
     done = subprocess.run(command, capture_output=True, text=True, **more)
