@@ -93,6 +93,18 @@ def flat(rows): return [n for row in rows for n in row]
 
 def bytes_to_four(bytes): return b'\0' * (-len(bytes) % 4)
 
+def with_turns(path, turns):
+    "a copy of a case that is to be walked so often"
+    copy = f'{path}-{turns}'
+    open(copy, 'wb').write(struct.pack('>I', turns) + open(path, 'rb').read()[4:])
+    return copy
+
+def code_words(path):
+    "W of a case's image"
+    words = struct.unpack('>6I', open(path, 'rb').read()[4 * 4:4 * 10])
+    sections = struct.iter_unpack('>6I', open(path, 'rb').read()[4 * 10:4 * (10 + 6 * words[2])])
+    return sum(size // 4 for _, size, kind, *_ in sections if kind == CODE)
+
 def write(path, turns, records):
     "how often the walk is to be done, then the records"
     words = [turns] + flat([kind, len(payload), *payload] for kind, payload in records)

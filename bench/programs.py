@@ -76,20 +76,20 @@ def link(folder, program, base):
     run('ld.lld', '-static', '-e', '0', f'--image-base={base}', f'{folder}/{program}.o', f'{folder}/{program}-c.o', '-o', out)
     return out
 
-def make(folder):
+def cases(folder):
     "name -> path of its case"
+    return {name: f"{os.path.abspath(folder)}/{name.replace(' ', '-')}.case" for name, _, _ in IMAGES}
+
+def make(folder):
     install(TOOLS)
     folder = os.path.abspath(folder)
     os.makedirs(folder, exist_ok=True)
     fetch(folder, [package for package, _, _ in SOURCES.values()])
     objects = {program: compile(folder, program) for program in SOURCES}
-    made = {}
     for name, program, copies in IMAGES:
         files = [link(folder, program, BASE + k * APART) for k in range(copies)] or [objects[program]]
-        made[name] = f"{folder}/{name.replace(' ', '-')}.case"
-        elf.write(made[name], 1, elf.records(files, SLOTS))
-    return made
+        elf.write(cases(folder)[name], 1, elf.records(files, SLOTS))
 
 if __name__ == '__main__':
     if len(sys.argv) != 2: sys.exit(__doc__)
-    for name, path in make(sys.argv[1]).items(): print(f'{name}: {path}')
+    make(sys.argv[1])

@@ -73,25 +73,17 @@ pub fn stack(mode: u8) {
     let image = Image::new(vec![0, 0, 1, 0, 0, 0, 0, 4, 0, 0, 0, 4], vec![0; 4]);
     let mut executor = Executor::new(image.obj.as_ref().unwrap());
     let vm = start(mode as u32);
-    let mut sum = 0;
-    if mode != b'a' {
-        for i in 0..DEPTH {
-            let address = if mode == b'c' { 4_000_000 - 4 * i } else { 4 * i };
-            executor.push(SectionAddress::new(3, address), vm.clone_all(), true);
-        }
+    for i in 0..if mode == b'a' { 0 } else { DEPTH } {
+        let address = if mode == b'c' { 4_000_000 - 4 * i } else { 4 * i };
+        executor.push(SectionAddress::new(3, address), vm.clone_all(), true);
     }
-    for i in 0..if mode == b'd' || mode == b'g' { DEPTH } else { 0 } {
+    for _ in 0..if mode == b'd' { DEPTH } else { 0 } {
         let top = executor.vm_stack.pop().unwrap();
-        match mode {
-            b'd' => executor.push(top.address, top.vm, true),
-            _ => executor.push(SectionAddress::new(2, 4 * i), vm.clone_all(), true),
-        }
+        executor.push(top.address, top.vm, true);
     }
-    while let (b'd' | b'e' | b'h', Some(top)) = (mode, executor.vm_stack.pop()) {
-        sum += top.address.address;
-        if mode == b'h' {
-            std::hint::black_box(*top.vm);
-        }
+    let mut sum = 0u32;
+    while let (b'd' | b'e', Some(top)) = (mode, executor.vm_stack.pop()) {
+        sum = sum.wrapping_add(top.address.address);
     }
     println!("{sum}");
 }

@@ -160,7 +160,8 @@ impl ObjSymbols {
             return Ok(found.map(|i| (i as u32, &self.list[i])));
         }
         // Objects stand last and ascend.
-        let at = self.list.partition_point(|s| s.kind != kind || (s.section, s.address) < (Some(section), address as u64));
+        let at =
+            self.list.partition_point(|s| s.kind != kind || (s.section, s.address) < (Some(section), address as u64));
         Ok(self.list.get(at).filter(|s| is(s)).map(|s| (at as u32, s)))
     }
 }

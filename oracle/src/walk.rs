@@ -294,12 +294,7 @@ impl Walk<'_> {
     }
 
     /// A target that is pushed, or a table that is read and whose entries are. The state is made only where it is pushed.
-    fn follow(
-        &mut self,
-        executor: &mut Executor,
-        target: &BranchTarget,
-        vm: impl FnOnce() -> Box<VM>,
-    ) -> Option<()> {
+    fn follow(&mut self, executor: &mut Executor, target: &BranchTarget, vm: impl FnOnce() -> Box<VM>) -> Option<()> {
         match target {
             BranchTarget::Address(RelocationTarget::Address(place)) if judge_place(self.obj, *place) == 0 => {
                 self.push(executor, *place, vm)
