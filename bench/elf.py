@@ -4,7 +4,8 @@ import struct
 NOBITS, SYMTAB, RELA = 8, 2, 4
 WRITE, ALLOC, EXEC = 1, 2, 4
 OBJECT, FUNCTION = 1, 2
-ABSOLUTE, RELATIVE_24, RELATIVE_14, RELATIVE_32 = 1, 10, 11, 26
+# Relocations: a word; a half-word of an instruction; a branch, with the bits of its displacement.
+ABSOLUTE, HALF_WORDS, BRANCHES = 1, (4, 5, 6), {10: 0x3fffffc, 11: 0xfffc}
 CODE, DATA, READ_ONLY, BSS = range(4)
 NOWHERE = 0xffffffff
 
@@ -12,15 +13,15 @@ class Elf:
     "One file: its allocated sections, functions, objects and relocations, by section number and address."
 
     def __init__(self, path):
-        self.bytes = open(path, 'rb').read()
+        self.bytes = bytearray(open(path, 'rb').read())
         assert self.bytes[:6] == b'\x7fELF\x01\x02' and self.at('>H', 18) == (20,), f'{path} is no big-endian PowerPC ELF'
-        self.relocatable, = self.at('>H', 16)
-        self.relocatable = self.relocatable == 1
+        self.relocatable = self.at('>H', 16) == (1,)
         table, = self.at('>I', 32)
         size, count = self.at('>HH', 46)
         self.headers = [self.at('>10I', table + i * size) for i in range(count)]
         self.kept = [i for i, h in enumerate(self.headers) if h[2] & ALLOC and h[5]]
         self.symbols = [s for h in self.headers if h[1] == SYMTAB for s in self.rows('>IIIBBH', h)]
+        self.relocations = list(self.bound()) if self.relocatable else []
 
     def at(self, form, place):
         return struct.unpack_from(form, self.bytes, place)
@@ -36,7 +37,7 @@ class Elf:
 
     def data(self, i):
         h = self.headers[i]
-        return b'' if h[1] == NOBITS else self.bytes[h[4]:h[4] + h[5]]
+        return b'' if h[1] == NOBITS else bytes(self.bytes[h[4]:h[4] + h[5]])
 
     def place(self, symbol):
         "section number and address; a relocatable file counts from the section's start"
@@ -53,15 +54,21 @@ class Elf:
         "names that other files are to give"
         text, = [h for h in self.headers if h[1] == SYMTAB]
         names = self.headers[text[6]][4]
-        return sorted(self.bytes[names + s[0]:self.bytes.index(0, names + s[0])].decode() for s in self.symbols[1:] if s[5] == 0)
+        return sorted(self.bytes[names + s[0]:self.bytes.index(b'\0', names + s[0])].decode() for s in self.symbols[1:] if s[5] == 0)
 
-    def relocations(self):
-        "place, kind, symbol's place (or none), addend; half-word ones stand at their instruction"
+    def bound(self):
+        """place, kind, symbol's place (or none), addend; half-word ones stand at their instruction. Branches inside a section
+        are carried out, as the linker of a module does."""
         for h in self.headers:
             if h[1] != RELA or h[7] not in self.kept: continue
             for offset, info, addend in self.rows('>IIi', h):
                 type, symbol = info & 255, self.symbols[info >> 8]
-                at = offset if type in (ABSOLUTE, RELATIVE_24, RELATIVE_14, RELATIVE_32) else offset & ~3
+                if type in BRANCHES and symbol[5] == h[7]:
+                    at = self.headers[h[7]][4] + offset
+                    word = self.at('>I', at)[0] & ~BRANCHES[type] | (symbol[1] + addend - offset) & BRANCHES[type]
+                    struct.pack_into('>I', self.bytes, at, word)
+                    continue
+                at = offset & ~3 if type in HALF_WORDS else offset
                 yield (h[7], self.address(h[7]) + at), int(type != ABSOLUTE), self.place(symbol) if symbol[5] in self.kept else None, addend
 
 def records(paths, slots):
@@ -71,13 +78,13 @@ def records(paths, slots):
     for f, e in enumerate(elfs):
         for i in e.kept:
             index[f, i] = len(bounds)
-            bytes = e.data(i)
+            held = e.data(i)
             bounds.append((e.kind(i), e.address(i), e.headers[i][5]))
-            sections += [e.address(i), e.headers[i][5], e.kind(i), f * 100 + i, len(data), len(bytes)]
-            data += bytes + bytes_to_four(bytes)
+            sections += [e.address(i), e.headers[i][5], e.kind(i), f * 100 + i, len(data), len(held)]
+            data += held + b'\0' * (-len(held) % 4)
     def named(type): return sorted(((index[f, i], a), size) for f, e in enumerate(elfs) for (i, a), size in e.named(type).items())
     bound = sorted((index[f, i], a, kind, *((index[f, to[0]], to[1]) if to else (NOWHERE, 0)), addend % 2**32)
-                   for f, e in enumerate(elfs) if e.relocatable for (i, a), kind, to, addend in e.relocations())
+                   for f, e in enumerate(elfs) for (i, a), kind, to, addend in e.relocations)
     objects = [(*place, size, int(size > 0)) for place, size in named(OBJECT)]
     starts = [place for place, _ in named(FUNCTION) if bounds[place[0]][0] == CODE]
     code = [(i, a, size) for i, (kind, a, size) in enumerate(bounds) if kind == CODE]
@@ -90,8 +97,6 @@ def records(paths, slots):
     return (1, [len(image), *image, len(data), *packed]), (10, walk)
 
 def flat(rows): return [n for row in rows for n in row]
-
-def bytes_to_four(bytes): return b'\0' * (-len(bytes) % 4)
 
 def with_turns(path, turns):
     "a copy of a case that is to be walked so often"

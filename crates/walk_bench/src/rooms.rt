@@ -8,10 +8,10 @@ pub(crate) fn file() -> [u8; 1114112]
     [0; 1114112]
 }
 
-pub(crate) fn image() -> [u32; 20000]
-    ensures { λ r. ⌜ 20000 ≡ length r ⌝ }
+pub(crate) fn image() -> [u32; 30000]
+    ensures { λ r. ⌜ 30000 ≡ length r ⌝ }
 {
-    [0; 20000]
+    [0; 30000]
 }
 
 pub(crate) fn starts() -> [u64; 4096]
