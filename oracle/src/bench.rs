@@ -6,7 +6,7 @@ use ppc750cl::Ins;
 use crate::{
     analysis::{
         cfa::SectionAddress,
-        executor::Executor,
+        executor::{ExecCbResult, Executor},
         vm::{Cr, Gpr, GprValue, VM},
     },
     answer::{Record, WALK, answer},
@@ -86,4 +86,22 @@ pub fn stack(mode: u8) {
         sum = sum.wrapping_add(top.address.address);
     }
     println!("{sum}");
+}
+
+/// The calls of crates/executor_bench, by the same letters: `next` with its reply is one run whose callback ends it.
+pub fn executor(mode: u8) {
+    let size = 4 * DEPTH;
+    let image = Image::new(vec![0, 0, 1, 0, 0, 0, 4096, size, 0, 0, 0, size], vec![96; size as usize]);
+    let obj = image.obj.as_ref().unwrap();
+    let mut executor = Executor::new(obj);
+    let mut vm = VM::new();
+    vm.gpr[3].value = GprValue::Constant(7);
+    for i in 0..DEPTH {
+        executor.push(SectionAddress::new(0, 4096 + 4 * i), vm.clone_all(), true);
+    }
+    let mut ended = None;
+    if mode != b'a' {
+        ended = executor.run(obj, |data| Ok(ExecCbResult::End(data.ins_addr.address))).unwrap();
+    }
+    println!("{ended:?}");
 }

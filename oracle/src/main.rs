@@ -45,6 +45,7 @@ oracle planted CASES ANSWERS            (built with the feature planted) each wr
 oracle bench-step WORDS                 steps words, as often as the first says; bench-decoded-step decodes each time
 oracle bench-walk CASE                  a word that says how often, an image, a walk of it: the walk's answer
 oracle bench-stack LETTER               pushes and pops at depth 3,000, as crates/stack_bench
+oracle bench-executor LETTER            next and a reply at depth 3,000, as crates/executor_bench
 In front of these: --kinds K  make cases of kinds up to K (8 unless said; at most 12)
                    --plant N  answer as wrong version N (built with the feature planted)";
 
@@ -80,6 +81,7 @@ fn main() {
             print!("{}", line(&bench::walk(turns, &records)));
         }
         ["bench-stack", letter] => bench::stack(letter.as_bytes()[0]),
+        ["bench-executor", letter] => bench::executor(letter.as_bytes()[0]),
         _ => fail(USAGE),
     }
 }
