@@ -45,6 +45,9 @@ oracle split CASES ANSWERS LOWER UPPER  what replay answers (kinds 1 to 8) and w
 oracle show CASES N                     case N (from 0), readable, with the oracle's answer
 oracle planted CASES ANSWERS            (built with the feature planted) each wrong version against the right answers
 oracle bench-step WORDS                 steps words, as often as the first says; bench-decoded-step decodes each time
+oracle bench-walk CASE                  a word that says how often, an image, a walk of it: the walk's answer
+oracle bench-stack LETTER               pushes and pops at depth 3,000, as crates/stack_bench
+oracle bench-executor LETTER            next and a reply at depth 3,000, as crates/executor_bench
 In front of these: --kinds K  the kinds of cases to make, as 1-8 or 9,11-12 (1-12 unless said); images are in every file
                    --plant N  answer as wrong version N (built with the feature planted)";
 
@@ -99,6 +102,12 @@ fn main() {
         ["planted", cases, answers] => planted(cases, answers),
         ["bench-step", words] => bench::step(words, false),
         ["bench-decoded-step", words] => bench::step(words, true),
+        ["bench-walk", case] => {
+            let (turns, records) = read_bench(case);
+            print!("{}", line(&bench::walk(turns, &records)));
+        }
+        ["bench-stack", letter] => bench::stack(letter.as_bytes()[0]),
+        ["bench-executor", letter] => bench::executor(letter.as_bytes()[0]),
         _ => fail(USAGE),
     }
 }
@@ -123,10 +132,22 @@ fn put_record(out: &mut Vec<u8>, record: &Record) {
     }
 }
 
-fn read_cases(path: &str) -> Vec<Record> {
+fn read_words(path: &str) -> Vec<u32> {
     let bytes = fs::read(path).unwrap_or_else(|e| fail(&format!("{path}: {e}")));
-    let words: Vec<u32> = bytes.chunks_exact(4).map(|c| u32::from_be_bytes(c.try_into().unwrap())).collect();
-    let mut left = &words[..];
+    bytes.chunks_exact(4).map(|c| u32::from_be_bytes(c.try_into().unwrap())).collect()
+}
+
+fn read_cases(path: &str) -> Vec<Record> {
+    records(path, &read_words(path))
+}
+
+/// A file of bench/walk: how often, then records.
+fn read_bench(path: &str) -> (u32, Vec<Record>) {
+    let words = read_words(path);
+    (words[0], records(path, &words[1..]))
+}
+
+fn records(path: &str, mut left: &[u32]) -> Vec<Record> {
     let mut out = Vec::new();
     while let [kind, count, rest @ ..] = left {
         if rest.len() < *count as usize {

@@ -265,18 +265,21 @@ pub fn run_script(current: &Image, p: &mut Words) -> (Vec<u32>, Standing) {
 const TABLE_ENTRIES: usize = 1024;
 
 #[derive(Default)]
-struct Counts {
+pub struct Counts {
     steps: u64,
     blocks: u64,
     read: u64,
     not_read: u64,
-    /// What happened on the way, for the classes.
+    /// What happened on the way, for the classes; nothing is kept where nobody watches.
     seen: BTreeSet<String>,
+    watched: bool,
 }
 
 impl Counts {
     fn saw(&mut self, what: &str) {
-        self.seen.insert(what.to_string());
+        if self.watched {
+            self.seen.insert(what.to_string());
+        }
     }
 }
 
@@ -292,16 +295,16 @@ struct Walk<'a> {
 
 impl Walk<'_> {
     /// Nothing: the stack is full (5).
-    fn push(&self, executor: &mut Executor, place: SectionAddress, vm: &VM) -> Option<()> {
+    fn push(&self, executor: &mut Executor, place: SectionAddress, vm: impl FnOnce() -> Box<VM>) -> Option<()> {
         if executor.vm_stack.len() >= self.slots {
             return None;
         }
-        executor.push(place, vm.clone_all(), !on(76));
+        executor.push(place, vm(), !on(76));
         Some(())
     }
 
-    /// A target that is pushed, or a table that is read and whose entries are.
-    fn follow(&mut self, executor: &mut Executor, target: &BranchTarget, vm: &VM) -> Option<()> {
+    /// A target that is pushed, or a table that is read and whose entries are. The state is made only where it is pushed.
+    fn follow(&mut self, executor: &mut Executor, target: &BranchTarget, vm: impl FnOnce() -> Box<VM>) -> Option<()> {
         match target {
             BranchTarget::Address(RelocationTarget::Address(place)) if judge_place(self.obj, *place) == 0 => {
                 let pushed = self.push(executor, *place, vm);
@@ -336,10 +339,11 @@ impl Walk<'_> {
                             && !(on(87) && found.is_empty() || on(93) && size.is_none()) =>
                     {
                         self.counts.read += 1;
+                        let vm = vm();
                         for place in found {
                             if judge_place(self.obj, place) != 0 {
                                 self.counts.saw("an entry that is no code word");
-                            } else if self.push(executor, place, vm).is_none() {
+                            } else if self.push(executor, place, || vm.clone_all()).is_none() {
                                 self.counts.saw("5 at an entry");
                                 return None;
                             }
@@ -360,29 +364,29 @@ impl Walk<'_> {
         }
         // "Blocks begun never exceed W; steps never exceed W times W."
         assert!(self.counts.blocks <= self.words && self.counts.steps <= self.words * self.words);
-        let followed = match &data.result {
+        let followed = match data.result {
             StepResult::Continue | StepResult::LoadStore { .. } => return ExecCbResult::Continue,
             StepResult::Illegal => Some(()),
             StepResult::Jump(BranchTarget::Address(RelocationTarget::Address(place)))
-                if judge_place(self.obj, *place) == 0 && place.section == data.ins_addr.section =>
+                if judge_place(self.obj, place) == 0 && place.section == data.ins_addr.section =>
             {
-                return ExecCbResult::Jump(*place);
+                return ExecCbResult::Jump(place);
             }
             StepResult::Jump(BranchTarget::Address(_)) if on(98) => Some(()),
             StepResult::Jump(target) => {
                 let held = data.executor.vm_stack.len();
-                let followed = self.follow(data.executor, target, data.vm);
+                let followed = self.follow(data.executor, &target, || data.vm.clone_all());
                 if matches!(target, BranchTarget::Address(_)) && data.executor.vm_stack.len() > held {
                     self.counts.saw("a jump into another section");
                 }
                 followed
             }
-            StepResult::Branch(branches) => branches.iter().try_for_each(|b| {
+            StepResult::Branch(branches) => branches.into_iter().try_for_each(|b| {
                 if on(77) && b.link {
                     return Some(());
                 }
                 let held = data.executor.vm_stack.len();
-                self.follow(data.executor, &b.target, &b.vm)?;
+                self.follow(data.executor, &b.target, || b.vm)?;
                 if b.link && data.executor.vm_stack.len() > held {
                     self.counts.saw("a linked target pushed");
                 }
@@ -392,13 +396,29 @@ impl Walk<'_> {
         // End carries 5 out.
         if followed.is_some() { ExecCbResult::EndBlock } else { ExecCbResult::End(()) }
     }
+
+    /// From the starts to the end; nothing: the stack was full (5).
+    fn run(&mut self, executor: &mut Executor, starts: &[SectionAddress], fresh: &VM) -> Option<()> {
+        if starts.iter().try_for_each(|s| self.push(executor, *s, || fresh.clone_all())).is_none() {
+            self.counts.saw("5 at a start");
+            return None;
+        }
+        // "run until the stack is empty, also past Ended"
+        while !executor.vm_stack.is_empty() {
+            if let Ok(Some(())) = executor.run(self.obj, |data| Ok(self.turn(data))) {
+                return None;
+            }
+        }
+        Some(())
+    }
 }
 
 pub fn walk(current: &Image, p: &mut Words) -> Vec<u32> {
-    run_walk(current, p).0
+    run_walk(current, p, 1, false).0
 }
 
-fn run_walk(current: &Image, p: &mut Words) -> (Vec<u32>, Counts) {
+/// The walk done so often, each time from the beginning (bench/walk counts what it costs), and if watched the classes it reaches.
+pub fn run_walk(current: &Image, p: &mut Words, turns: u32, watched: bool) -> (Vec<u32>, Counts) {
     let (slots, count, fill) = (p.one() as usize, p.one() as usize, p.one());
     let mut given = || {
         let there = p.one() == 1;
@@ -425,17 +445,13 @@ fn run_walk(current: &Image, p: &mut Words) -> (Vec<u32>, Counts) {
     let mut w = Walk { obj, words: current.code_words as u64, slots, start, end, counts: Counts::default() };
     let mut executor = Executor::new(obj);
     let fresh = VM::new_with_base(r2, r13);
-    let mut pushed = starts.iter().try_for_each(|s| w.push(&mut executor, *s, &fresh));
-    if pushed.is_none() {
-        w.counts.saw("5 at a start");
+    let mut walked = Some(());
+    for _ in 0..turns {
+        w.counts = Counts { watched, ..Counts::default() };
+        executor = Executor::new(obj);
+        walked = w.run(&mut executor, &starts, &fresh);
     }
-    // "run until the stack is empty, also past Ended"
-    while pushed.is_some() && !executor.vm_stack.is_empty() {
-        if let Ok(Some(())) = executor.run(obj, |data| Ok(w.turn(data))) {
-            pushed = None;
-        }
-    }
-    let mut out = vec![if pushed.is_some() { 0 } else { 5 }];
+    let mut out = vec![if walked.is_some() { 0 } else { 5 }];
     for count in [w.counts.steps, w.counts.blocks, w.counts.read, w.counts.not_read] {
         out.extend([(count >> 32) as u32, count as u32]);
     }
@@ -571,7 +587,7 @@ fn skip_result(a: &mut Words) {
 }
 
 pub fn walk_classes(out: &mut Vec<String>, current: &Image, p: &mut Words, answer: &[u32]) {
-    let counts = run_walk(current, &mut Words::new(p.left)).1;
+    let counts = run_walk(current, &mut Words::new(p.left), 1, true).1;
     for what in &counts.seen {
         put!(out, "walk: {what}");
     }
