@@ -23,7 +23,7 @@ use vm::TableSize;
 use vm::VM;
 
 // The place that an entry of a table names.
-fn place_of(key: u64) -> SectionAddress
+pub fn place_of(key: u64) -> SectionAddress
     ensures { λ r. ⌜ r ≡ placeOf key ⌝ }
 {
     SectionAddress {
@@ -33,7 +33,14 @@ fn place_of(key: u64) -> SectionAddress
 }
 
 // The first n entries of a table in order, each with the same state, until a push is refused.
-fn push_keys(im: &[u32], stack: &mut [u32], count: usize, entries: &[u64], n: usize, s: VM) -> Taken
+pub fn push_keys(
+    im: &[u32],
+    stack: &mut [u32],
+    count: usize,
+    entries: &[u64],
+    n: usize,
+    s: VM,
+) -> Taken
     requires { ⌜ (tablesSound (now im) ≡ true) × Stack (now stack) count × (n ≤ length (now entries)) ⌝ }
     ensures { λ r. ⌜ PushedKeys (now (im .entry)) (now (stack .entry)) count (now (entries .entry)) n s (now (stack .exit)) r ⌝ }
 {
