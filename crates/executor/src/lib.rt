@@ -1,5 +1,6 @@
 // Branched execution, one instruction at a time: executor.rs with its callback turned into two calls, `next` and `reply`.
 // The caller keeps the stack's words and count, the visited map and the execution, and hands them to each call: any will do.
+pub mod following;
 pub mod judge;
 pub mod stepping;
 
@@ -209,7 +210,7 @@ pub fn reply(
                     answer: Answer::OutOfTurn,
                     run: run,
                 },
-                Phase::Waiting => stepping::follow(im, map, run, how),
+                Phase::Waiting => following::follow(im, map, run, how),
             }
         }
     }

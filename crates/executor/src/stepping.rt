@@ -1,4 +1,4 @@
-// One word stepped, from a run or from the stack, and where a reply leads.
+// The next word, from a run or from the stack: marked, stepped, waiting.
 // The image is sound, and stack and running place are lawful: `judge` says so first.
 ghost use mathlib.Core.Path.{_≡_};
 ghost use mathlib.Core.Bool.{true};
@@ -9,17 +9,13 @@ ghost use Rattle.image.specs.Rules.{tablesSound, dataInside};
 ghost use Rattle.stack.specs.Stack.{Stack, entries};
 ghost use Rattle.executor.specs.Judge.{isWord, allWords};
 ghost use Rattle.executor.specs.Next.{Tops, isBranch, endedAt, refusedAt, steppedAt, resumed, popped, handedWith, handedBy};
-ghost use Rattle.executor.specs.Reply.{jumped, followed};
 ghost use Rattle.executor.specs.Standing.{standing, dropped};
 use crate::Answer;
-use crate::ExecCbResult;
 use crate::Execution;
 use crate::Handed;
 use crate::Outcome;
 use crate::Phase;
-use crate::Replied;
 use crate::judge::is_word;
-use lookups::CodePlace;
 use places::SectionAddress;
 use step::StepResult;
 use vm::VM;
@@ -38,7 +34,7 @@ pub fn refused(why: Answer, count: usize, run: Execution) -> Handed
 }
 
 // What was under way is no more: its place and state stay behind, and nothing reads them.
-fn drop(run: Execution) -> Execution
+pub fn drop(run: Execution) -> Execution
     ensures { λ r. ⌜ r ≡ dropped run ⌝ }
 {
     let at = run.at;
@@ -174,77 +170,4 @@ pub fn pop(
     }
     let p = stack::top_place(stack, n);
     step_at(im, bytes, map, n - 1, p, p, stack::top_state(stack, n))
-}
-
-// Continue runs on at the next word, visited or not; a Jump at its word, or drops the run where that was visited; EndBlock and End
-// drop it. A Jump's place is judged: OtherSection (6), NotCode (2), Misaligned (3).
-pub fn follow(im: &[u32], map: &[u32], run: Execution, how: ExecCbResult) -> Replied
-    requires { ⌜ tablesSound (now im) ≡ true ⌝ }
-    ensures { λ r. ⌜ r ≡ followed (now (im .entry)) (now (map .entry)) run how ⌝ }
-{
-    match how {
-        ExecCbResult::Continue => {
-            let start = run.block_start;
-            let s = run.vm;
-            Replied {
-                answer: Answer::Done,
-                run: Execution {
-                    phase: Phase::Running,
-                    at: places::offset(run.at, 4),
-                    block_start: start,
-                    vm: s,
-                },
-            }
-        }
-        ExecCbResult::Jump(q) => jump(im, map, run, q),
-        ExecCbResult::EndBlock => Replied {
-            answer: Answer::Done,
-            run: drop(run),
-        },
-        ExecCbResult::End => Replied {
-            answer: Answer::Done,
-            run: drop(run),
-        },
-    }
-}
-
-fn jump(im: &[u32], map: &[u32], run: Execution, q: SectionAddress) -> Replied
-    requires { ⌜ tablesSound (now im) ≡ true ⌝ }
-    ensures { λ r. ⌜ r ≡ jumped (now (im .entry)) (now (map .entry)) run q ⌝ }
-{
-    let at = run.at;
-    if q.section != at.section {
-        return Replied {
-            answer: Answer::OtherSection,
-            run: run,
-        };
-    }
-    match lookups::code_place(im, q) {
-        CodePlace::NotCode => Replied {
-            answer: Answer::NotCode,
-            run: run,
-        },
-        CodePlace::Misaligned => Replied {
-            answer: Answer::Misaligned,
-            run: run,
-        },
-        CodePlace::Fine => {
-            if visited::contains(map, lookups::word_number(im, q)) {
-                return Replied {
-                    answer: Answer::Done,
-                    run: drop(run),
-                };
-            }
-            let s = run.vm;
-            Replied {
-                answer: Answer::Done,
-                run: Execution {
-                    phase: Phase::Running,
-                    at: q,
-                    block_start: q,
-                    vm: s,
-                },
-            }
-        }
-    }
 }

@@ -7,6 +7,7 @@ use mathlib.Core.List.{List}
 use native.Mathlib.Omega.{arith}
 use native.Mathlib.Nat.{le-refl, le-trans, mul-le-mul}
 use lib.ListN.{length}
+use borrow.Author.Tests.{not-true}
 use Rattle.words.specs.Choice.{pick}
 use Rattle.search.proofs.EveryLaws.{and-left, and-right}
 use Rattle.places.specs.declared.SectionAddress.{SectionAddress}
@@ -37,10 +38,6 @@ use Rattle.walk.proofs.Jumps.{Asks, leaver-asks}
 -- the measure of a block's loop
 abbrev pub leftAt : List ℕ → List ℕ → SectionAddress → VM → List ℕ → ℕ
 leftAt ws bs p s v = leftIn (groundOf ws bs p Nowhere 0) (busy p s) v
-
-not-true : (t : Bool) → not t ≡ true → t ≡ false
-not-true true e = absurd (true≢false (sym e))
-not-true false e = refl
 
 at-most : (t : Bool) (x y m : ℕ) → x ≤ m → y ≤ m → pick t x y ≤ m
 at-most true x y m a b = a

@@ -1,8 +1,8 @@
 -- By what the caller wants.
 -- Assumes nothing.
 use borrow.Author.Needs.{needs}
-use Rattle.executor.proofs.stepping.follow.Statement.{statement}
-use Rattle.executor.proofs.stepping.follow.Tie as tie
+use Rattle.executor.proofs.following.follow.Statement.{statement}
+use Rattle.executor.proofs.following.follow.Tie as tie
 
 enum-told : tie.Need-enum-told
 enum-told c = search needs

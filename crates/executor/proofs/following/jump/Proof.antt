@@ -5,8 +5,8 @@ use borrow.Author.Needs.{needs}
 use borrow.Author.Tests.{eq-eqb, ne-eqb}
 use Rattle.lookups.proofs.CodeBytes.{fine-place}
 use Rattle.visited.specs.Bits.{visitedAt}
-use Rattle.executor.proofs.stepping.jump.Statement.{statement}
-use Rattle.executor.proofs.stepping.jump.Tie as tie
+use Rattle.executor.proofs.following.jump.Statement.{statement}
+use Rattle.executor.proofs.following.jump.Tie as tie
 
 returns : tie.Need-returns
 returns c = rw (ne-eqb _ _ (c .if1 .taken))
