@@ -15,3 +15,17 @@ pub(crate) fn report() -> [u8; 4096]
 {
     [0; 4096]
 }
+
+// A stack of 64 slots.
+pub(crate) fn stack() -> [u32; 21186]
+    ensures { λ r. ⌜ 21186 ≡ length r ⌝ }
+{
+    [0; 21186]
+}
+
+// The starts of a walk.
+pub(crate) fn starts() -> [u64; 64]
+    ensures { λ r. ⌜ 64 ≡ length r ⌝ }
+{
+    [0; 64]
+}
