@@ -5,7 +5,7 @@ use mathlib.Core.Path.{_≡_, refl, sym, ap, _∙_, subst}
 use mathlib.Core.Bool.{Bool, true, false, _&&_, not, true≢false}
 use mathlib.Core.List.{List}
 use native.Mathlib.Omega.{arith}
-use native.Mathlib.Nat.{le-refl, le-trans, mul-le-mul}
+use native.Mathlib.Nat.{mul-le-mul}
 use lib.ListN.{length}
 use borrow.Author.Tests.{not-true}
 use Rattle.words.specs.Choice.{pick}
@@ -25,13 +25,12 @@ use Rattle.visited.specs.Bits.{visitedAt, withBit, withRun, onesBelow}
 use Rattle.turns.specs.Grounds.{busy, jump}
 use Rattle.turns.specs.Turns.{leftIn}
 use Rattle.turns.specs.Runs.{Going}
-use Rattle.turns.specs.Moves.{isFine, moveAt, groundOf}
+use Rattle.turns.specs.Moves.{mostPushed, isFine, moveAt, groundOf}
 use Rattle.turns.specs.Straight.{isEnded, leaving, Ran}
 use Rattle.turns.proofs.RunLaws.{going-here, going-then, going-jump, jump-falls}
 use Rattle.turns.proofs.SoundGround.{image-lawful}
 use Rattle.turns.proofs.StraightRuns.{straight-run}
 use Rattle.turns.proofs.Leavings.{marks-leaver}
-use Rattle.walk.specs.declared.Ended.{Ended}
 use Rattle.walk.specs.Blocks.{jumpIn, Block, past, jumps-out, jumps-old, leaves-by}
 use Rattle.walk.proofs.Jumps.{Asks, leaver-asks}
 
@@ -43,13 +42,18 @@ at-most : (t : Bool) (x y m : ℕ) → x ≤ m → y ≤ m → pick t x y ≤ m
 at-most true x y m a b = a
 at-most false x y m a b = b
 
--- so no block is longer than what a count holds
-pub left-few : (ws bs : List ℕ) → codeWords ws ≤ maxCodeWords → (p : SectionAddress) (s : VM) (v : List ℕ) → leftAt ws bs p s v ≤ 70000000000
+-- it is never more than this
+abbrev mostLeft : ℕ
+mostLeft = maxCodeWords * (maxCodeWords + mostPushed + 3) + (mostPushed + 2 + maxCodeWords)
+
+left-few : (ws bs : List ℕ) → codeWords ws ≤ maxCodeWords → (p : SectionAddress) (s : VM) (v : List ℕ) → leftAt ws bs p s v ≤ mostLeft
 left-few ws bs few p s v =
-    let ahead : pick (isFine (codePlace ws p)) (codeWords ws - wordNumber ws p) 0 ≤ maxCodeWords = at-most (isFine (codePlace ws p)) _ _ _ (omega arith) (omega arith) in
-    let weight = at-most (isFine (codePlace ws p) && not (visitedAt v (wordNumber ws p))) 0 (2048 + 2 + pick (isFine (codePlace ws p)) (codeWords ws - wordNumber ws p) 0) 300000 (omega arith) (omega arith) in
+    let ahead = at-most (isFine (codePlace ws p)) (codeWords ws - wordNumber ws p) 0 maxCodeWords (omega arith) (omega arith) in
+    let weight =
+    at-most (isFine (codePlace ws p) && not (visitedAt v (wordNumber ws p))) 0 (mostPushed + 2 + pick (isFine (codePlace ws p)) (codeWords ws - wordNumber ws p) 0)
+    (mostPushed + 2 + maxCodeWords) (omega arith) (omega arith) in
     let unvisited : codeWords ws - onesBelow v (codeWords ws) ≤ maxCodeWords = omega arith in
-    let each : codeWords ws + 2048 + 3 ≤ maxCodeWords + 2048 + 3 = omega arith in
+    let each : codeWords ws + mostPushed + 3 ≤ maxCodeWords + mostPushed + 3 = omega arith in
     omega (arith, mul-le-mul unvisited each)
 
 -- where the loop stands: at the word p, n words stepped and b blocks begun since the word p₀
@@ -72,14 +76,14 @@ module _ {ws bs : List ℕ} (fine : sound ws (length bs) ≡ true) {p₀ : Secti
   few-words : codeWords ws ≤ maxCodeWords
   few-words = sound-tables ws (tables-of-sound ws (length bs) fine) .few-code-words
 
-  pub block-bits : codeWords ws ≤ length v * 32
+  block-bits : codeWords ws ≤ length v * 32
   block-bits = omega (arith, bits, h .line p Nowhere 0 .map-length)
 
   -- the counts fit
-  pub block-few : (b ≤ 70000000000) × (n ≤ 70000000000 * 262144)
+  pub block-few : (b ≤ mostLeft) × (n ≤ mostLeft * maxCodeWords)
   block-few =
-      let z : b ≤ 70000000000 = omega (arith, h .fewer, left-few ws bs few-words p₀ s₀ v₀) in
-      (z, omega (arith, h .few))
+      let begun : b ≤ mostLeft = omega (arith, h .fewer, left-few ws bs few-words p₀ s₀ v₀) in
+      (begun, omega (arith, h .few))
 
   -- the straight run from there
   module _ {r : Stopped} (e : r ≡ runOf ws (dataFrom ws bs p) 0 (length (dataFrom ws bs p) / 4) p t) where
@@ -124,7 +128,7 @@ module _ {ws bs : List ℕ} (fine : sound ws (length bs) ≡ true) {p₀ : Secti
       marked : (from : SectionAddress) (upto : MaybeAddress) (slots : ℕ) → leave-map ≡ withBit run-map (wordNumber ws (r .at))
       marked from upto slots = rw (← many-is from upto slots) (sym (marks-leaver (groundOf ws bs from upto slots) p t v r (ran from upto slots)))
 
-      pub run-few : many + 1 ≤ maxCodeWords
+      run-few : many + 1 ≤ maxCodeWords
       run-few =
           omega (arith, few-words, image-lawful ws bs p Nowhere 0 fine .below (r .at) leaver, ran p Nowhere 0 .number-is, many-is p Nowhere 0)
 

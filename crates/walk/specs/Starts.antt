@@ -9,8 +9,8 @@ use Rattle.places.specs.declared.MaybeAddress.{MaybeAddress}
 use Rattle.vm.specs.declared.MaybeBase.{MaybeBase}
 use Rattle.turns.specs.declared.WalkAnswer.{WalkAnswer}
 use Rattle.turns.specs.declared.WalkAnswer.the-variants as answer
-use Rattle.turns.specs.Moves.{Lent, placeOf}
-use Rattle.turns.specs.Walks.{Given, given, judged}
+use Rattle.turns.specs.Moves.{placeOf}
+use Rattle.turns.specs.Walks.{given, judged}
 use Rattle.turns.specs.Heads.{Head}
 use Rattle.walk.specs.declared.Begun.{Begun}
 

@@ -4,8 +4,7 @@ pub mod blocks;
 pub mod starts;
 
 ghost use mathlib.Core.Path.{_≡_};
-ghost use Rattle.turns.specs.Moves.{Lent};
-ghost use Rattle.turns.specs.Walks.{Leaves, given, walked};
+ghost use Rattle.turns.specs.Walks.{given, walked};
 ghost use Rattle.walk.specs.Starts.{placesOf};
 use blocks::run_block;
 use lookups::word_number;
@@ -18,6 +17,9 @@ use step::Stopped;
 use turns::WalkAnswer;
 use turns::Walked;
 use vm::MaybeBase;
+
+// How many entries a table may have in a walk.
+pub const TABLE_ROOM: usize = 1024;
 
 // How a walk begins: the judgement, and where nothing is refused how many starts wait, and whether a push was refused (5).
 pub struct Begun {
@@ -51,7 +53,7 @@ pub fn walk(
     upto: MaybeAddress,
     map: &mut [u32],
     stack: &mut [u32],
-    entries: &mut [u64; 1024],
+    entries: &mut [u64; TABLE_ROOM],
 ) -> Walked
     ensures { λ r. ⌜ walked (given (now (im .entry)) (now («data» .entry)) (placesOf (now (starts .entry))) two thirteen from upto) (now (map .entry)) (record { stack = now (stack .entry); entries = now (entries .entry) }) ≡ record { result = r; vis = now (map .exit); lent = record { stack = now (stack .exit); entries = now (entries .exit) } } ⌝ }
 {

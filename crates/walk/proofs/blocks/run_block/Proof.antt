@@ -7,7 +7,7 @@ use borrow.Author.Needs.{needs}
 use Rattle.places.specs.declared.MaybeAddress.the-variants.{Nowhere}
 use Rattle.image.proofs.SoundTables.{tables-of-sound, data-of-sound}
 use Rattle.turns.proofs.SoundGround.{fine-place}
-use Rattle.walk.proofs.BlockLaws.{leftAt, Within, block-begins, block-bits, block-few, run-ahead, block-past, run-few, block-leaves, block-stays, block-falls, block-jumps}
+use Rattle.walk.proofs.BlockLaws.{leftAt, Within, block-begins, block-few, run-ahead, block-past, block-leaves, block-stays, block-falls, block-jumps}
 use Rattle.walk.proofs.blocks.run_block.Statement.{statement}
 use Rattle.walk.proofs.blocks.run_block.Tie as tie
 
