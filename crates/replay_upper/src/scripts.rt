@@ -327,13 +327,19 @@ fn handed_over(
     let run = k.run;
     let phase = phase_of(read::word(p, plus(k.next, 1)) == 1);
     let place = read::place(p, plus(k.next, 2));
-    let h = executor::next(im, data, map, stack, k.count, placed(phase, place, run));
-    let at = handed(line, k.at, h);
+    let other = placed(phase, place, run);
+    let asked = Kept {
+        run: other,
+        count: k.count,
+        next: k.next,
+        at: k.at,
+    };
+    let refused = next(im, data, map, stack, line, asked);
     Kept {
         run,
         count: k.count,
         next: plus(k.next, 4),
-        at,
+        at: refused.at,
     }
 }
 
