@@ -2,7 +2,10 @@
 -- Assumes nothing.
 use mathlib.Core.Path.{_≡_, refl}
 use mathlib.Core.List.{[], _∷_}
+use mathlib.Core.Bool.{false}
 use Prim.Native.Nat.{ℕ}
+use lib.Dec.{eqb}
+use Rattle.words.specs.Choice.{pick}
 use types.Run.{OneOf, miss}
 use denote.Enum.Declared.{tagOf}
 use Rattle.places.specs.declared.RelocationTarget.{RelocationTarget}
@@ -51,3 +54,12 @@ neither (Address t) f h z o = refl
 neither (ComparisonResult k) f h z o = refl
 neither (Range a b c) f h z o = absurd (miss (0 ∷ 2 ∷ 3 ∷ 5 ∷ []) 4 tt o)
 neither (LoadIndexed t m) f h z o = refl
+
+-- what a mark of field k decides, by the test whether there is one
+pub by-mark : {A : Type 0} (v : GprValue) (k : ℕ) (a z : A) → onMark v (λ j. pick (eqb j k) a z) z ≡ pick (onMark v (λ j. eqb j k) false) a z
+by-mark Unknown k a z = refl
+by-mark (Constant n) k a z = refl
+by-mark (Address t) k a z = refl
+by-mark (ComparisonResult j) k a z = refl
+by-mark (Range lo hi st) k a z = refl
+by-mark (LoadIndexed t m) k a z = refl

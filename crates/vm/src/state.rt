@@ -1,9 +1,12 @@
 // States made new, made for the two sides of a call, and changed as a whole.
 // A state always has thirty-two register records and eight compare records.
 ghost use mathlib.Core.Path.{_≡_};
+ghost use mathlib.Core.Bool.{false, _||_};
 ghost use Prim.Native.Nat.{_<_};
-ghost use Rattle.vm.specs.Registers.{withReg, direct};
-ghost use Rattle.vm.specs.States.{fresh, basesOf, withBase, linkOf, savedFrom, returnOf, resultOf, withResult};
+ghost use lib.Dec.{eqb};
+ghost use Rattle.words.specs.Choice.{pick};
+ghost use Rattle.vm.specs.Values.{onMark};
+ghost use Rattle.vm.specs.States.{fresh, basesOf, withBase, keepValue, linkOf, savedFrom, returnOf, withResult};
 use crate::Cr;
 use crate::Gpr;
 use crate::GprValue;
@@ -36,17 +39,6 @@ pub fn new() -> VM
     }
 }
 
-// The value alone of g, at the register i of t.
-fn keep_value(t: VM, i: usize, g: Gpr) -> VM
-    requires { ⌜ i < 32 ⌝ }
-    ensures { λ r. ⌜ r ≡ withReg t i (direct (g .value)) ⌝ }
-{
-    let mut u = t;
-    let v = g.value;
-    u.gpr[i] = set_direct(v);
-    u
-}
-
 fn with_base(t: VM, i: usize, base: MaybeBase) -> VM
     requires { ⌜ i < 32 ⌝ }
     ensures { λ r. ⌜ r ≡ withBase t i base ⌝ }
@@ -68,12 +60,38 @@ pub fn new_with_base(sda2_base: MaybeBase, sda_base: MaybeBase) -> VM
     with_base(with_base(new(), 2, sda2_base), 13, sda_base)
 }
 
+// Whether register i is a dedicated one: r2, r13, and r1 where it is asked for.
+fn is_dedicated(i: usize, one: bool) -> bool
+    ensures { λ r. ⌜ r ≡ pick (eqb i 1) one (eqb i 2 || eqb i 13) ⌝ }
+{
+    if i == 1 { one } else { (i == 2) | (i == 13) }
+}
+
+// The values alone of the dedicated registers. By a loop, since a register that is named by a number would have every copy of the
+// state made field by field.
+fn dedicated(s: VM, one: bool) -> VM
+    ensures { λ r. ⌜ r ≡ keepValue (keepValue (pick one (keepValue fresh s 1) fresh) s 2) s 13 ⌝ }
+{
+    let mut t = new();
+    let mut i: usize = 0;
+    while i < 32 {
+        let k = i;
+        i = i + 1;
+        if is_dedicated(k, one) {
+            let g = s.gpr[k];
+            let v = g.value;
+            t.gpr[k] = set_direct(v);
+            continue;
+        }
+    }
+    t
+}
+
 // Into a called function: only r2 and r13 are kept.
 pub fn clone_for_link(s: VM) -> VM
     ensures { λ r. ⌜ r ≡ linkOf s ⌝ }
 {
-    let t = keep_value(new(), 2, s.gpr[2]);
-    keep_value(t, 13, s.gpr[13])
+    dedicated(s, false)
 }
 
 // The registers from 14 up are those of s.
@@ -93,19 +111,17 @@ fn copy_saved(t: VM, s: VM) -> VM
 pub fn clone_for_return(s: VM) -> VM
     ensures { λ r. ⌜ r ≡ returnOf s ⌝ }
 {
-    let t1 = keep_value(new(), 1, s.gpr[1]);
-    let t2 = keep_value(t1, 2, s.gpr[2]);
-    let t3 = keep_value(t2, 13, s.gpr[13]);
-    copy_saved(t3, s)
+    copy_saved(dedicated(s, true), s)
 }
 
-fn result_known(g: Gpr, value: GprValue, crf: u8) -> Gpr
-    ensures { λ r. ⌜ r ≡ resultOf value crf g ⌝ }
+// Whether the register holds the left side of what the field records.
+fn is_marked(g: Gpr, crf: u8) -> bool
+    ensures { λ r. ⌜ r ≡ onMark (g .value) (λ j. eqb j crf) false ⌝ }
 {
     let w = g.value;
     match w {
-        GprValue::ComparisonResult(j) => { if j == crf { with_value(g, value) } else { g } }
-        _ => g,
+        GprValue::ComparisonResult(j) => j == crf,
+        _ => false,
     }
 }
 
@@ -117,8 +133,12 @@ pub fn set_comparison_result(s: VM, value: GprValue, crf: u8) -> VM
     let mut i: usize = 0;
     while i < 32 {
         let g = t.gpr[i];
-        t.gpr[i] = result_known(g, value, crf);
+        let k = i;
         i = i + 1;
+        if is_marked(g, crf) {
+            t.gpr[k] = with_value(g, value);
+            continue;
+        }
     }
     t
 }
