@@ -2,3 +2,4 @@
 pub mod PutLaws
 pub mod SlotLaws
 pub mod SameLaws
+pub mod BlankLaws

@@ -36,7 +36,8 @@ pub struct AddressNumbers {
     pub address: u32,
 }
 
-// The state from a number on. Both loops fill one local: a state handed on by value is a copy.
+// The state from a number on. Both loops fill one local: a state handed on by value is a copy. A register whose
+// first word is 0 is as in a new state.
 fn state_at(words: &[u32], at: usize) -> VM
     requires { ⌜ at + stateSize ≤ length (now words) ⌝ }
     ensures { λ r. ⌜ r ≡ stateAt (now (words .entry)) at ⌝ }
@@ -46,8 +47,13 @@ fn state_at(words: &[u32], at: usize) -> VM
     let ctr = held_at(words, at + 324);
     let mut i: usize = 0;
     while i < 32 {
-        s.gpr[i] = register_at(words, at + i * 8);
+        let from = at + i * 8;
+        let k = i;
         i = i + 1;
+        if words[from] == 0 {
+            continue;
+        }
+        s.gpr[k] = register_at(words, from);
     }
     let mut j: usize = 0;
     while j < 8 {

@@ -1,19 +1,23 @@
--- The loops' invariants: the first records of the local state are those that stand in the words.
+-- The loops' invariants: the first records of the local state are those that stand in the words, the registers after them are blank.
 -- The measures are the records that are left. Assumes nothing.
-use mathlib.Core.Path.{_≡_, refl}
+use mathlib.Core.Path.{_≡_, refl, _∙_}
 use Prim.Native.Nat.{ℕ, _+_, _-_, _*_, _≤_}
 use native.Mathlib.Omega.{arith}
-use lib.ListN.{length, take, length-set}
+use lib.ListN.{length, take, getD, set, length-set}
+use lib.Seq.{getD-set-other}
 use borrow.Author.Needs.{needs}
+use Rattle.vm.specs.Registers.{blank}
+use Rattle.vm.specs.declared.Gpr.{Gpr}
 use Rattle.slot.specs.Layout.{registerAt, compareAt}
 use Rattle.slot.specs.Put.{listed}
 use Rattle.slot.proofs.PutLaws.{listed-more, listed-whole}
 use Rattle.slot.proofs.SlotLaws.{state-read}
+use Rattle.slot.proofs.BlankLaws.{none-blank, blank-read, listed-blank}
 use Rattle.slot.proofs.state_at.Statement.{statement}
 use Rattle.slot.proofs.state_at.Tie as tie
 
 abbrev Inv-loop : tie.InvT-loop
-Inv-loop words at s₀ lr ctr i₀ s i = (i ≤ 32) × (length (s .gpr) ≡ 32) × (take i (s .gpr) ≡ listed (λ (k : ℕ). registerAt words (at + k * 8)) i) × (length (s .cr) ≡ 8)
+Inv-loop words at s₀ lr ctr i₀ s i = (i ≤ 32) × (length (s .gpr) ≡ 32) × (take i (s .gpr) ≡ listed (λ (k : ℕ). registerAt words (at + k * 8)) i) × (length (s .cr) ≡ 8) × ((k : ℕ) → i ≤ k → getD (s .gpr) k blank ≡ blank)
 
 abbrev μ-loop : tie.MeasureT-loop
 μ-loop words at s₀ lr ctr i₀ s i = 32 - i
@@ -41,38 +45,61 @@ held-at-requires-2 c κs = search needs
 
 loop-holds : tie.Need-loop-holds Inv-loop μ-loop Inv-loop2 μ-loop2
 unfolding listed
-loop-holds c = rw (c .before .before .new .ensures) (omega arith, refl, refl, refl)
+loop-holds c = rw (c .before .before .new .ensures) (omega arith, refl, refl, refl, λ k h. none-blank 32 k)
 
-mul-register-at : tie.Need-mul-register-at Inv-loop μ-loop Inv-loop2 μ-loop2
-mul-register-at c = search needs
+mul-from : tie.Need-mul-from Inv-loop μ-loop Inv-loop2 μ-loop2
+mul-from c = search needs
 
-add-register-at : tie.Need-add-register-at Inv-loop μ-loop Inv-loop2 μ-loop2
-add-register-at c = search needs
-
-register-at-requires : tie.Need-register-at-requires Inv-loop μ-loop Inv-loop2 μ-loop2
-register-at-requires c κs = search needs
-
-mul-t14 : tie.Need-mul-t14 Inv-loop μ-loop Inv-loop2 μ-loop2
-mul-t14 c = search needs
-
-element-set-from-s : tie.Need-element-set-from-s Inv-loop μ-loop Inv-loop2 μ-loop2
-element-set-from-s c = search needs
+add-from : tie.Need-add-from Inv-loop μ-loop Inv-loop2 μ-loop2
+add-from c = search needs
 
 add-i : tie.Need-add-i Inv-loop μ-loop Inv-loop2 μ-loop2
 add-i c = search needs
+
+mul-if1 : tie.Need-mul-if1 Inv-loop μ-loop Inv-loop2 μ-loop2
+mul-if1 c = search needs
+
+shared-slice-read-if1 : tie.Need-shared-slice-read-if1 Inv-loop μ-loop Inv-loop2 μ-loop2
+shared-slice-read-if1 c = search needs
 
 loop-less : tie.Need-loop-less Inv-loop μ-loop Inv-loop2 μ-loop2
 loop-less c = search needs
 
 loop-again : tie.Need-loop-again Inv-loop μ-loop Inv-loop2 μ-loop2
 loop-again c =
-    let l = c .before .before in
+    let l = c .before .before .before in
+    let q = l .loop in
+    let a = l .before .before .before .before .before .args in
+    let f : ℕ → Gpr = λ k. registerAt (a .words .now) (a .at + k * 8) in (
+      omega arith,
+      q .inv .1,
+      listed-blank f (q .s .gpr) (q .i) (omega arith) (blank-read (a .words .now) (a .at + q .i * 8) (c .if1 .taken)) (q .inv .4 (q .i) (omega arith)) (q .inv .2),
+      q .inv .3,
+      λ k h. q .inv .4 k (omega (arith, h)),
+    )
+
+register-at-requires : tie.Need-register-at-requires Inv-loop μ-loop Inv-loop2 μ-loop2
+register-at-requires c κs = search needs
+
+mul-t13 : tie.Need-mul-t13 Inv-loop μ-loop Inv-loop2 μ-loop2
+mul-t13 c = search needs
+
+element-set-from-s : tie.Need-element-set-from-s Inv-loop μ-loop Inv-loop2 μ-loop2
+element-set-from-s c = search needs
+
+loop-less-2 : tie.Need-loop-less-2 Inv-loop μ-loop Inv-loop2 μ-loop2
+loop-less-2 c = search needs
+
+loop-again-2 : tie.Need-loop-again-2 Inv-loop μ-loop Inv-loop2 μ-loop2
+loop-again-2 c =
+    let l = c .before .before .before .before in
     let q = l .loop in
     let a = l .before .before .before .before .before .args in (
       omega arith,
       simp length-set (q .inv .1),
       rw (c .register-at .ensures) (listed-more (λ (k : ℕ). registerAt (a .words .now) (a .at + k * 8)) (q .s .gpr) (q .i) (omega arith) (q .inv .2)),
       q .inv .3,
+      λ k h. getD-set-other (q .s .gpr) (q .i) k (c .register-at .result) blank (λ e. let n : ⊥ = omega (arith, h, e) in n) ∙ q .inv .4 k (omega (arith, h)),
     )
 
 loop2-holds : tie.Need-loop2-holds Inv-loop μ-loop Inv-loop2 μ-loop2
@@ -95,8 +122,8 @@ add-compare-at-2 c = search needs
 compare-at-requires : tie.Need-compare-at-requires Inv-loop μ-loop Inv-loop2 μ-loop2
 compare-at-requires c κs = search needs
 
-mul-t22 : tie.Need-mul-t22 Inv-loop μ-loop Inv-loop2 μ-loop2
-mul-t22 c = search needs
+mul-t24 : tie.Need-mul-t24 Inv-loop μ-loop Inv-loop2 μ-loop2
+mul-t24 c = search needs
 
 element-set-from-s-2 : tie.Need-element-set-from-s-2 Inv-loop μ-loop Inv-loop2 μ-loop2
 element-set-from-s-2 c = search needs
@@ -143,20 +170,24 @@ state-at-spec =
     add-held-at-2
     held-at-requires-2
     loop-holds
-    mul-register-at
-    add-register-at
-    register-at-requires
-    mul-t14
-    element-set-from-s
+    mul-from
+    add-from
     add-i
+    mul-if1
+    shared-slice-read-if1
     loop-less
     loop-again
+    register-at-requires
+    mul-t13
+    element-set-from-s
+    loop-less-2
+    loop-again-2
     loop2-holds
     add-compare-at
     mul-compare-at
     add-compare-at-2
     compare-at-requires
-    mul-t22
+    mul-t24
     element-set-from-s-2
     add-j
     loop2-less
