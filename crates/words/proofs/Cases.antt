@@ -1,16 +1,8 @@
--- Document 01's worked masks, and its traps, by computation.
+-- Document 01's traps, by computation.
 -- Assumes nothing.
 use mathlib.Core.Path.{_≡_, refl}
 use Rattle.words.specs.Word.{field, simmOf, liOf, sprOf}
-use Rattle.words.specs.Bits.{number, maskOf, rotated}
-
-c9 : maskOf 5 4 ≡ 0xFFFFFFFF
-unfolding maskOf number
-c9 = refl
-
-c10 : maskOf 31 0 ≡ 0x80000001
-unfolding maskOf number
-c10 = refl
+use Rattle.words.specs.Bits.{number, rotated}
 
 -- a rotation by 33 is one by 1
 rotation-is-modulo-32 : rotated 0x80000001 33 ≡ 3

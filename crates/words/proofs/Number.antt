@@ -2,13 +2,12 @@
 -- Assumes nothing.
 use mathlib.Core.Path.{_≡_, refl, sym, ap, ap₂, _∙_}
 use Prim.Native.Nat.{ℕ, zero, suc, _+_, _-_, _*_, _/_, _%_, _^_, _≤_, _<_, min}
-use native.Mathlib.Nat.{mod-one, mod-lt, add-zero, add-suc, mul-one, add-mul, mul-assoc, add-assoc, pow-suc, div-one, mod-eq-of-lt, one-mul, mul-comm}
+use native.Mathlib.Nat.{mod-one, add-zero, add-suc, mul-one, add-mul, mul-assoc, add-assoc, pow-suc, div-one, mod-eq-of-lt}
 use native.Mathlib.Numerals.{add-one}
-use native.Mathlib.Decide.{decLt}
 use native.Mathlib.Omega.{arith}
 use lib.Arith.{digits-mod, digits-div, digits-lt}
-use lib.Pow.{pow-lt, shr-shr, mod-pow-add}
-use lib.Bits.{bitAnd, bitOr, and-step, or-shifted}
+use lib.Pow.{shr-shr, mod-pow-add}
+use lib.Bits.{bitAnd, and-step}
 use Rattle.words.specs.Word.{bit}
 use Rattle.words.specs.Bits.{number}
 
@@ -48,63 +47,12 @@ number-word w h =
     number-ext (bit w) (λ (i : ℕ). bit w (0 + i)) 32 (λ i l. ap (bit w) (omega arith))
     ∙ number-field w 0 32 (omega arith) ∙ mod-eq-of-lt (omega arith) ∙ div-one w
 
--- so words with the same bits are equal
-pub word-ext : (v w : ℕ) → v < 2 ^ 32 → w < 2 ^ 32 → ((i : ℕ) → i < 32 → bit v i ≡ bit w i) → v ≡ w
-word-ext v w hv hw h = sym (number-word v hv) ∙ number-ext (bit v) (bit w) 32 h ∙ number-word w hw
-
--- a number made of n bits has them: counted from the right, bit i stands n - 1 - i places up
+-- a number made of n bits is below 2^n
 module _ (f : ℕ → ℕ) (hf : (i : ℕ) → f i < 2) where
   pub number-lt : (n : ℕ) → number f n < 2 ^ n
   unfolding number
   number-lt zero = omega arith
   number-lt (suc n) = rw pow-suc (digits-lt (number-lt n) (hf n))
-
-  one : (n i : ℕ) → i < suc n → (i < n → number f n / 2 ^ (n - suc i) % 2 ≡ f i) → Dec (i < n) → number f (suc n) / 2 ^ (suc n - suc i) % 2 ≡ f i
-  unfolding number
-  one n i h r (yes p) =
-      let e : suc n - suc i ≡ 1 + (n - suc i) = omega arith in
-      ap (λ (k : ℕ). (number f n * 2 + f n) / 2 ^ k % 2) e
-      ∙ ap (λ (x : ℕ). x % 2) (sym (shr-shr (number f n * 2 + f n) 1 (n - suc i)) ∙ ap (λ (x : ℕ). x / 2 ^ (n - suc i)) (digits-div (number f n) (hf n)))
-      ∙ r p
-  one n i h r (no q) =
-      let e : i ≡ n = omega arith in
-      let z : suc n - suc i ≡ 0 = omega arith in
-      ap (λ (k : ℕ). (number f n * 2 + f n) / 2 ^ k % 2) z ∙ ap (λ (x : ℕ). x % 2) (div-one (number f n * 2 + f n))
-      ∙ digits-mod (number f n) (hf n) ∙ ap f (sym e)
-
-  pub number-bit : (n i : ℕ) → i < n → number f n / 2 ^ (n - suc i) % 2 ≡ f i
-  number-bit zero i h = absurd (omega arith)
-  number-bit (suc n) i h = one n i h (λ p. number-bit n i p) (decLt i n)
-
--- a word whose first i bits are f's, with the next one or-ed in
-pub bit-in : (f : ℕ → ℕ) (i : ℕ) → i < 32 → f i ≡ 1
-    → bitOr (number f i * 2 ^ (32 - i)) (1 * 2 ^ (31 - i) % 2 ^ 32) ≡ number f (i + 1) * 2 ^ (32 - (i + 1))
-unfolding number
-bit-in f i h e =
-    let k : ℕ = 31 - i in
-    let e₀ : 32 - i ≡ suc k = omega arith in
-    let e₁ : 32 - (i + 1) ≡ k = omega arith in
-    let l : k < 32 = omega arith in
-    let l′ : k < suc k = omega arith in
-    let small : 2 ^ k < 2 ^ 32 = pow-lt {j = 32} l in
-    ap₂ bitOr (ap (λ (x : ℕ). number f i * 2 ^ x) e₀) (ap (λ (x : ℕ). x % 2 ^ 32) (one-mul (2 ^ k)) ∙ mod-eq-of-lt small)
-    ∙ or-shifted (number f i) (suc k) (2 ^ k) (pow-lt l′)
-    ∙ ap (λ (x : ℕ). number f i * x + 2 ^ k) (pow-suc 2 k)
-    ∙ ap₂ (λ (x y : ℕ). x + y) (sym (mul-assoc (number f i) (2 ^ k) 2) ∙ mul-assoc (number f i) (2 ^ k) 2 ∙ ap (λ (x : ℕ). number f i * x) (mul-comm (2 ^ k) 2) ∙ sym (mul-assoc (number f i) 2 (2 ^ k))) (sym (one-mul (2 ^ k)))
-    ∙ sym (add-mul (number f i * 2) 1 (2 ^ k))
-    ∙ ap₂ (λ (x y : ℕ). (number f i * 2 + x) * 2 ^ y) (sym e) (sym e₁)
-    ∙ ap (λ (x : ℕ). number f x * 2 ^ (32 - (i + 1))) (sym (add-one i))
-
-pub bit-out : (f : ℕ → ℕ) (i : ℕ) → i < 32 → f i ≡ 0 → number f i * 2 ^ (32 - i) ≡ number f (i + 1) * 2 ^ (32 - (i + 1))
-unfolding number
-bit-out f i h e =
-    let k : ℕ = 31 - i in
-    let e₀ : 32 - i ≡ suc k = omega arith in
-    let e₁ : 32 - (i + 1) ≡ k = omega arith in
-    ap (λ (x : ℕ). number f i * 2 ^ x) e₀ ∙ ap (λ (x : ℕ). number f i * x) (pow-suc 2 k ∙ mul-comm (2 ^ k) 2) ∙ sym (mul-assoc (number f i) 2 (2 ^ k))
-    ∙ ap (λ (x : ℕ). x * 2 ^ k) (sym (add-zero (number f i * 2)))
-    ∙ ap₂ (λ (x y : ℕ). (number f i * 2 + x) * 2 ^ y) (sym e) (sym e₁)
-    ∙ ap (λ (x : ℕ). number f x * 2 ^ (32 - (i + 1))) (sym (add-one i))
 
 -- `and` works bit by bit
 pub number-and : (f g : ℕ → ℕ) → ((i : ℕ) → f i < 2) → ((i : ℕ) → g i < 2) → (n : ℕ) → bitAnd (number f n) (number g n) ≡ number (λ (i : ℕ). min (f i) (g i)) n
