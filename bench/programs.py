@@ -29,7 +29,7 @@ SOURCES = {
 # image -> program, and how many copies of it at addresses of their own; 0: Relocatable
 IMAGES = {'lua': ('lua', 1), 'mujs': ('mujs', 1), 'inform': ('inform', 1), 'lua core': ('lua core', 0),
           'lua x2': ('lua', 2), 'lua x4': ('lua', 4), 'zlib': ('zlib', 1), 'bzip2': ('bzip2', 1), 'zlib.o': ('zlib', 0), 'bzip2.o': ('bzip2', 0)}
-# Whole programs, and one at twice and four times its size. The others are small libraries, walked when they are named.
+# Whole programs, two small libraries, and one program at twice and four times its size. The others are walked when they are named.
 USUAL = ['lua', 'mujs', 'inform', 'zlib', 'bzip2', 'lua core', 'lua x2', 'lua x4']
 # The first copy's address, and how far apart copies stand.
 BASE, APART = 0x80000000, 0x100000
