@@ -7,8 +7,8 @@ use mathlib.Core.Path.{_≡_, sym, ap, _∙_}
 use Prim.Native.Nat.{ℕ, _+_, _≤_, _<_}
 use native.Mathlib.Decide.{decLt, ℕ-discrete}
 use native.Mathlib.Omega.{arith}
-use lib.ListN.{length, getD, set, length-set}
-use lib.Seq.{getD-set-same, getD-set-other}
+use lib.ListN.{length, getD, set, take, drop, length-set}
+use lib.Seq.{getD-set-same, getD-set-other, length-take-le, set-append-left, take-set-lt, drop-set-lt}
 use borrow.Author.Tests.{lt-ltb, le-ltb, ne-eqb}
 use Rattle.places.specs.declared.SectionAddress.{SectionAddress}
 use Rattle.slot.proofs.PutLaws.{put-length, put-low, put-high, listed-same, listed-one}
@@ -22,6 +22,13 @@ use Rattle.stack.specs.Push.{nextSlot, nextHigh, claimed, appended}
 use Rattle.stack.specs.Stack.{Entry, room, slotAt, orderAt, entryAt, heldAt, entries, keyAt, slotKey, highOf, sortedOf, Stack}
 use Rattle.stack.proofs.RoomLaws.{room-fits}
 use Rattle.stack.proofs.SlotsKept.{key-kept, entry-kept, slot-kept}
+
+-- a word below what is written over may be set before it or after it
+put-set : (ws : List ℕ) (at : ℕ) (l : List ℕ) (i v : ℕ) → i < at → at ≤ length ws → set (put ws at l) i v ≡ put (set ws i v) at l
+put-set ws at l i v h g =
+    let t : length (take at ws) ≡ at = length-take-le at ws g in
+    set-append-left (take at ws) (l ++ drop (at + length l) ws) i v (omega (arith, t, h))
+    ∙ rw (take-set-lt at ws i v h, drop-set-lt (at + length l) ws i v (omega (arith, h)))
 
 -- while states are held, word 0 says how many slots are in use
 pub high-word : (ws : List ℕ) (n : ℕ) → 0 < n → highOf ws n ≡ getD ws 0 0
@@ -100,9 +107,18 @@ module _ (ws : List ℕ) (n : ℕ) (st : Stack ws n) (free : n < room (length ws
     pub append-length : length vs ≡ length ws
     append-length = put-length c (slotAt ws k) (slotWords p s) slot-in ∙ claim-length
 
-    -- a claimed slot that is written
-    pub append-now : {w v : List ℕ} {at : ℕ} → v ≡ put w at (slotWords p s) → w ≡ c → at ≡ slotAt ws k → v ≡ vs
-    append-now {at = i} e f g = e ∙ ap (λ (u : List ℕ). put u i (slotWords p s)) f ∙ ap (λ (j : ℕ). put c j (slotWords p s)) g
+    -- the slot may be written first: what is entered lies below it
+    pub append-entered : set (set (set (put ws (slotAt ws k) (slotWords p s)) 0 (nextHigh ws n)) 1 (sortedOf ws n)) (2 + n) k ≡ vs
+    append-entered =
+        let l : List ℕ = slotWords p s in
+        let at : ℕ = slotAt ws k in
+        let low : 2 + n < at = omega arith in
+        let in0 : at ≤ length ws = omega (arith, slot-fits) in
+        let in1 : at ≤ length (set ws 0 (nextHigh ws n)) = simp length-set in0 in
+        let in2 : at ≤ length (set (set ws 0 (nextHigh ws n)) 1 (sortedOf ws n)) = simp length-set in0 in
+        ap (λ (u : List ℕ). set (set u 1 (sortedOf ws n)) (2 + n) k) (put-set ws at l 0 (nextHigh ws n) (omega (arith, low)) in0)
+        ∙ ap (λ (u : List ℕ). set u (2 + n) k) (put-set (set ws 0 (nextHigh ws n)) at l 1 (sortedOf ws n) (omega (arith, low)) in1)
+        ∙ put-set (set (set ws 0 (nextHigh ws n)) 1 (sortedOf ws n)) at l (2 + n) k low in2
 
     below-slots : (i : ℕ) → i < 2 + room (length ws) → getD vs i 0 ≡ getD c i 0
     below-slots i h = put-low c (slotAt ws k) (slotWords p s) i (omega (arith, slot-in)) (omega arith)

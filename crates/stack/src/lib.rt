@@ -6,8 +6,9 @@ pub mod order;
 ghost use mathlib.Core.Path.{_≡_};
 ghost use Prim.Native.Nat.{_+_, _-_, _<_, _≤_};
 ghost use lib.ListN.{length};
-ghost use Rattle.stack.specs.Stack.{room, slotAt, highOf, sortedOf, Stack, heldAt};
-ghost use Rattle.stack.specs.Push.{nextSlot, nextHigh, claimed, Pushes};
+ghost use Rattle.slot.specs.Fits.{Fits};
+ghost use Rattle.stack.specs.Stack.{room, highOf, Stack, heldAt};
+ghost use Rattle.stack.specs.Push.{nextSlot, nextHigh, appended, Pushes};
 use order::room_of;
 use order::slot_at;
 use order::sort;
@@ -51,19 +52,19 @@ fn next_high(words: &[u32], count: usize) -> u32
     if n < high { high } else { n + 1 }
 }
 
-// A slot for one state more, entered on top: where it begins.
-fn claim(words: &mut [u32], count: usize) -> usize
+// A slot for one state more, written, then entered on top.
+fn enter(words: &mut [u32], count: usize, p: SectionAddress, s: VM)
     requires { ⌜ (Stack (now words) count) × (count < room (length (now words))) ⌝ }
-    ensures { λ r. ⌜ (r ≡ slotAt (now (words .entry)) (nextSlot (now (words .entry)) count)) × (now (words .exit) ≡ claimed (now (words .entry)) count) ⌝ }
+    ensures { λ r. ⌜ (now (words .exit) ≡ appended (now (words .entry)) count p s) × Fits s ⌝ }
 {
     let k = next_slot(words, count);
     let high = next_high(words, count);
     let sorted = order::sorted_of(words, count);
     let at = slot_at(words, k);
+    slot::put_slot(words, at, p, s);
     words[0] = high;
     words[1] = sorted as u32;
     words[2 + count] = k;
-    at
 }
 
 // One state more: on top, or, sorted, with the whole stack brought in order of place, stably. While all slots are held it is not
@@ -78,8 +79,7 @@ pub fn push(words: &mut [u32], count: usize, p: SectionAddress, s: VM, sorted: b
             count: count,
         };
     }
-    let at = claim(words, count);
-    slot::put_slot(words, at, p, s);
+    enter(words, count, p, s);
     if sorted {
         sort(words, count + 1);
         return Pushed {

@@ -1,4 +1,4 @@
--- Refused, or claimed, written and perhaps sorted: between the steps the words are a stack.
+-- Refused, or written, entered and perhaps sorted: between the steps the words are a stack.
 -- Assumes nothing.
 use mathlib.Core.Bool.{Bool}
 use mathlib.Core.List.{List}
@@ -10,7 +10,7 @@ use borrow.Author.Needs.{needs}
 use borrow.Author.Tests.{lt-ltb, le-ltb}
 use Rattle.stack.specs.Push.{appended, sortedWords, pushedWords}
 use Rattle.stack.specs.Stack.{Stack, room}
-use Rattle.stack.proofs.AppendLaws.{slot-fits, append-now, append-stack}
+use Rattle.stack.proofs.AppendLaws.{append-stack}
 use Rattle.stack.proofs.RoomLaws.{room-small}
 use Rattle.stack.proofs.push.Statement.{statement}
 use Rattle.stack.proofs.push.Tie as tie
@@ -24,79 +24,61 @@ returns c =
     let full : room (length (a .words .now)) ≤ a .count = omega (arith, c .if1 .taken, c .before .room-of .ensures) in
     record { taken = sym (le-ltb (a .count) (room (length (a .words .now))) full); count = refl; words = refl; fits = λ e. absurd (let z : _≡_ {A = ℕ} 0 1 = cc in let n : ⊥ = omega arith in n) }
 
-claim-requires : tie.Need-claim-requires
-claim-requires c κs =
+enter-requires : tie.Need-enter-requires
+enter-requires c κs =
     let b = c .before .before .before .before in
     (b .pre, omega (arith, c .before .if1 .left, c .before .before .room-of .ensures))
 
-put-slot-requires : tie.Need-put-slot-requires
-put-slot-requires c κs =
-    let b = c .before .before .before .before .before .before .before .before in
-    let a = b .args in
-    let ws = a .words .now in
-    let free : a .count < room (length ws) = omega (arith, c .before .before .before .before .before .if1 .left, c .before .before .before .before .before .before .room-of .ensures) in
-    let q = c .before .before .before in
-    omega (arith, q .claim .ensures .0, q .claim .kept .0, slot-fits ws (a .count) (b .pre) free (a .p) (a .s))
-
 add-sort : tie.Need-add-sort
-add-sort c = omega (arith, c .before .before .before .before .before .before .before .before .before .before .if1 .left, c .before .before .before .before .before .before .before .before .before .before .before .room-of .ensures, room-small (length (c .before .before .before .before .before .before .before .before .before .before .before .before .before .args .words .now)))
+add-sort c = omega (arith, c .before .before .before .before .before .before .if1 .left, c .before .before .before .before .before .before .before .room-of .ensures, room-small (length (c .before .before .before .before .before .before .before .before .before .args .words .now)))
 
 sort-requires : tie.Need-sort-requires
 sort-requires c κs =
-    let b = c .before .before .before .before .before .before .before .before .before .before .before .before .before in
+    let b = c .before .before .before .before .before .before .before .before .before in
     let a = b .args in
     let ws = a .words .now in
-    let free : a .count < room (length ws) = omega (arith, c .before .before .before .before .before .before .before .before .before .before .if1 .left, c .before .before .before .before .before .before .before .before .before .before .before .room-of .ensures) in
-    let q = c .before .before .before .before .before .before .before .before in
-    let s = c .before .before .before .before in
-    let now : s .put-slot .last .0 ≡ appended ws (a .count) (a .p) (a .s) =
-    append-now ws (a .count) (b .pre) free (a .p) (a .s) (s .put-slot .ensures .0) (q .claim .ensures .1) (q .claim .ensures .0) in
-    (subst (λ (w : List ℕ). Stack w (a .count + 1)) (sym now) (append-stack ws (a .count) (b .pre) free (a .p) (a .s) (s .put-slot .ensures .1)), omega arith)
+    let free : a .count < room (length ws) = omega (arith, c .before .before .before .before .before .before .if1 .left, c .before .before .before .before .before .before .before .room-of .ensures) in
+    let e = c .before .before .before .before in
+    (subst (λ (w : List ℕ). Stack w (a .count + 1)) (sym (e .enter .ensures .0)) (append-stack ws (a .count) (b .pre) free (a .p) (a .s) (e .enter .ensures .1)), omega arith)
 
-add-t18 : tie.Need-add-t18
-add-t18 c = omega (arith, c .before .before .before .before .before .before .before .before .before .before .before .before .before .if1 .left, c .before .before .before .before .before .before .before .before .before .before .before .before .before .before .room-of .ensures, room-small (length (c .before .before .before .before .before .before .before .before .before .before .before .before .before .before .before .before .args .words .now)))
+add-t15 : tie.Need-add-t15
+add-t15 c = omega (arith, c .before .before .before .before .before .before .before .before .before .if1 .left, c .before .before .before .before .before .before .before .before .before .before .room-of .ensures, room-small (length (c .before .before .before .before .before .before .before .before .before .before .before .before .args .words .now)))
 
 same-length : tie.Need-same-length
 same-length c = search needs
 
 returns-2 : tie.Need-returns-2
 returns-2 c =
-    let b = c .before .before .before .before .before .before .before .before .before .before .before .before .before .before .before .before in
+    let b = c .before .before .before .before .before .before .before .before .before .before .before .before in
     let a = b .args in
     let ws = a .words .now in
-    let free : a .count < room (length ws) = omega (arith, c .before .before .before .before .before .before .before .before .before .before .before .before .before .if1 .left, c .before .before .before .before .before .before .before .before .before .before .before .before .before .before .room-of .ensures) in
-    let q = c .before .before .before .before .before .before .before .before .before .before .before in
-    let s = c .before .before .before .before .before .before .before in
-    let now : s .put-slot .last .0 ≡ appended ws (a .count) (a .p) (a .s) =
-    append-now ws (a .count) (b .pre) free (a .p) (a .s) (s .put-slot .ensures .0) (q .claim .ensures .1) (q .claim .ensures .0) in
+    let free : a .count < room (length ws) = omega (arith, c .before .before .before .before .before .before .before .before .before .if1 .left, c .before .before .before .before .before .before .before .before .before .before .room-of .ensures) in
+    let e = c .before .before .before .before .before .before .before in
     record {
       taken = sym (lt-ltb (a .count) (room (length ws)) free);
       count = refl;
-      words = c .before .before .sort .ensures ∙ ap (λ (w : List ℕ). sortedWords w (a .count + 1)) now ∙ ap (λ (t : Bool). pushedWords ws (a .count) (a .p) (a .s) t) (sym (c .before .before .before .before .if2 .taken));
-      fits = λ e. s .put-slot .ensures .1;
+      words = c .before .before .sort .ensures ∙ ap (λ (w : List ℕ). sortedWords w (a .count + 1)) (e .enter .ensures .0) ∙ ap (λ (t : Bool). pushedWords ws (a .count) (a .p) (a .s) t) (sym (c .before .before .before .before .if2 .taken));
+      fits = λ t. e .enter .ensures .1;
     }
 
-add-t7 : tie.Need-add-t7
-add-t7 c = omega (arith, c .before .before .before .before .before .before .before .before .before .if1 .left, c .before .before .before .before .before .before .before .before .before .before .room-of .ensures, room-small (length (c .before .before .before .before .before .before .before .before .before .before .before .before .args .words .now)))
+add-t6 : tie.Need-add-t6
+add-t6 c = omega (arith, c .before .before .before .before .before .if1 .left, c .before .before .before .before .before .before .room-of .ensures, room-small (length (c .before .before .before .before .before .before .before .before .args .words .now)))
 
 same-length-2 : tie.Need-same-length-2
 same-length-2 c = search needs
 
 returns-3 : tie.Need-returns-3
 returns-3 c =
-    let b = c .before .before .before .before .before .before .before .before .before .before .before .before in
+    let b = c .before .before .before .before .before .before .before .before in
     let a = b .args in
     let ws = a .words .now in
-    let free : a .count < room (length ws) = omega (arith, c .before .before .before .before .before .before .before .before .before .if1 .left, c .before .before .before .before .before .before .before .before .before .before .room-of .ensures) in
-    let q = c .before .before .before .before .before .before .before in
-    let s = c .before .before .before in
-    let now : s .put-slot .last .0 ≡ appended ws (a .count) (a .p) (a .s) =
-    append-now ws (a .count) (b .pre) free (a .p) (a .s) (s .put-slot .ensures .0) (q .claim .ensures .1) (q .claim .ensures .0) in
+    let free : a .count < room (length ws) = omega (arith, c .before .before .before .before .before .if1 .left, c .before .before .before .before .before .before .room-of .ensures) in
+    let e = c .before .before .before in
     record {
       taken = sym (lt-ltb (a .count) (room (length ws)) free);
       count = refl;
-      words = now ∙ ap (λ (t : Bool). pushedWords ws (a .count) (a .p) (a .s) t) (sym (c .if2 .left));
-      fits = λ e. s .put-slot .ensures .1;
+      words = e .enter .ensures .0 ∙ ap (λ (t : Bool). pushedWords ws (a .count) (a .p) (a .s) t) (sym (c .if2 .left));
+      fits = λ t. e .enter .ensures .1;
     }
 
 pub push-spec : {M : Type 1} → statement M
@@ -105,13 +87,12 @@ push-spec =
     (tie.spec
     room-of-requires
     returns
-    claim-requires
-    put-slot-requires
+    enter-requires
     add-sort
     sort-requires
-    add-t18
+    add-t15
     same-length
     returns-2
-    add-t7
+    add-t6
     same-length-2
     returns-3)
