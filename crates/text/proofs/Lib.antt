@@ -1,0 +1,3 @@
+-- What holds of text in a buffer.
+pub mod Laying
+pub mod Digits

@@ -1,0 +1,2 @@
+-- Text in a lent buffer. Read Texts.
+pub mod Texts
