@@ -29,7 +29,7 @@ mod rng;
 mod show;
 mod walk;
 
-use answer::{IMAGE, Record, answer};
+use answer::*;
 use image::Image;
 use rng::Rng;
 
@@ -40,20 +40,48 @@ const USAGE: &str = "\
 oracle make SEED COUNT CASES ANSWERS    cases from a seed, with the oracle's answers; counts of classes go to stderr
 oracle sample SEED COUNT CASES ANSWERS  out of COUNT cases those that reach a class first, without the largest
 oracle answer CASES ANSWERS             answers to an existing file of cases
+oracle split CASES ANSWERS LOWER UPPER  what replay answers (kinds 1 to 8) and what replay_upper does (1 and 9 to 12):
+                                        LOWER.cases, LOWER.answers, UPPER.cases, UPPER.answers
 oracle show CASES N                     case N (from 0), readable, with the oracle's answer
 oracle planted CASES ANSWERS            (built with the feature planted) each wrong version against the right answers
 oracle bench-step WORDS                 steps words, as often as the first says; bench-decoded-step decodes each time
-In front of these: --kinds K  make cases of kinds up to K (8 unless said; at most 12)
+oracle bench-walk CASE                  a word that says how often, an image, a walk of it: the walk's answer
+oracle bench-stack LETTER               pushes and pops at depth 3,000, as crates/stack_bench
+oracle bench-executor LETTER            next and a reply at depth 3,000, as crates/executor_bench
+In front of these: --kinds K  the kinds of cases to make, as 1-8 or 9,11-12 (1-12 unless said); images are in every file
                    --plant N  answer as wrong version N (built with the feature planted)";
+
+/// A set of kinds of cases.
+#[derive(Clone, Copy)]
+pub struct Kinds(u32);
+
+impl Kinds {
+    /// From a list of kinds and spans of kinds.
+    fn from_list(list: &str) -> Option<Self> {
+        let mut kinds = 0;
+        for part in list.split(',') {
+            let (first, last) = part.split_once('-').unwrap_or((part, part));
+            let (first, last): (u32, u32) = (first.parse().ok()?, last.parse().ok()?);
+            if first < IMAGE || last < first || last > READ {
+                return None;
+            }
+            (first..=last).for_each(|k| kinds |= 1 << k);
+        }
+        Some(Self(kinds))
+    }
+
+    pub fn has(self, kind: u32) -> bool {
+        self.0 >> kind & 1 == 1
+    }
+}
 
 fn main() {
     let mut args: Vec<String> = std::env::args().skip(1).collect();
-    let mut kinds = 8;
+    let mut kinds = Kinds::from_list("1-12").unwrap();
     while args.len() > 1 && args[0].starts_with("--") {
-        let number = args[1].parse().unwrap_or_else(|_| fail(USAGE));
         match args[0].as_str() {
-            "--plant" => plants::set(number),
-            "--kinds" if (8..=12).contains(&number) => kinds = number,
+            "--plant" => plants::set(args[1].parse().unwrap_or_else(|_| fail(USAGE))),
+            "--kinds" => kinds = Kinds::from_list(&args[1]).unwrap_or_else(|| fail(USAGE)),
             _ => fail(USAGE),
         }
         args.drain(..2);
@@ -68,11 +96,18 @@ fn main() {
             let text: String = records.iter().map(|r| line(&answer(&mut current, r))).collect();
             write(answers, text.as_bytes());
         }
+        ["split", cases, answers, lower, upper] => split(cases, answers, lower, upper),
         ["show", cases, n] => show::show(&read_cases(cases), number(n) as usize),
         ["sample", seed, count, cases, answers] => sample(number(seed), number(count), kinds, cases, answers),
         ["planted", cases, answers] => planted(cases, answers),
         ["bench-step", words] => bench::step(words, false),
         ["bench-decoded-step", words] => bench::step(words, true),
+        ["bench-walk", case] => {
+            let (turns, records) = read_bench(case);
+            print!("{}", line(&bench::walk(turns, &records)));
+        }
+        ["bench-stack", letter] => bench::stack(letter.as_bytes()[0]),
+        ["bench-executor", letter] => bench::executor(letter.as_bytes()[0]),
         _ => fail(USAGE),
     }
 }
@@ -97,10 +132,22 @@ fn put_record(out: &mut Vec<u8>, record: &Record) {
     }
 }
 
-fn read_cases(path: &str) -> Vec<Record> {
+fn read_words(path: &str) -> Vec<u32> {
     let bytes = fs::read(path).unwrap_or_else(|e| fail(&format!("{path}: {e}")));
-    let words: Vec<u32> = bytes.chunks_exact(4).map(|c| u32::from_be_bytes(c.try_into().unwrap())).collect();
-    let mut left = &words[..];
+    bytes.chunks_exact(4).map(|c| u32::from_be_bytes(c.try_into().unwrap())).collect()
+}
+
+fn read_cases(path: &str) -> Vec<Record> {
+    records(path, &read_words(path))
+}
+
+/// A file of bench/walk: how often, then records.
+fn read_bench(path: &str) -> (u32, Vec<Record>) {
+    let words = read_words(path);
+    (words[0], records(path, &words[1..]))
+}
+
+fn records(path: &str, mut left: &[u32]) -> Vec<Record> {
     let mut out = Vec::new();
     while let [kind, count, rest @ ..] = left {
         if rest.len() < *count as usize {
@@ -114,7 +161,7 @@ fn read_cases(path: &str) -> Vec<Record> {
 }
 
 /// Makes cases and answers them, in order.
-fn run(seed: u64, count: u64, kinds: u32, giants: u32, mut each: impl FnMut(&Image, &Record, &[u32])) {
+fn run(seed: u64, count: u64, kinds: Kinds, giants: &[u32], mut each: impl FnMut(&Image, &Record, &[u32])) {
     let mut rng = Rng::new(seed);
     let mut current = Image::default();
     let (mut made, mut number) = (0, 0);
@@ -157,31 +204,33 @@ impl Stats {
     }
 }
 
-/// The highest kind of case that a class needs.
-fn needs_kind(class: &str) -> u32 {
+/// The kind of case that a class is of.
+fn kind_of(class: &str) -> u32 {
     match class.split(&[' ', ':']).next().unwrap_or("") {
-        "script" => 9,
-        "walk" => 10,
-        "report" => {
-            if class.starts_with("report write") {
-                11
-            } else {
-                12
-            }
-        }
-        _ => 8,
+        "image" => IMAGE,
+        "decode" => DECODE,
+        "mask" => MASK,
+        "rotate" => ROTATE,
+        "branch" => BRANCH,
+        "lookup" => LOOKUP,
+        "step" => STEP,
+        "table" => TABLE,
+        "script" => SCRIPT,
+        "walk" => WALK,
+        _ if class.starts_with("report write") => WRITE,
+        _ => READ,
     }
 }
 
-/// What only large images reach: a sample has none of them but those with all code words, which share their bytes.
+/// What only large images reach: a sample has none of them but those with all code words, which share their bytes, and
+/// where it has walks the one with a great table.
 fn needs_giant(class: &str) -> bool {
     ["4096 bound", "4096 unbound", "4097 bound", "4097 unbound", "4096 symbols", "4097 symbols"]
         .iter()
         .any(|c| class.ends_with(c))
-        || class.contains("1,024")
 }
 
-fn make_cases(seed: u64, count: u64, kinds: u32, cases: &str, answers: &str) {
+fn make_cases(seed: u64, count: u64, kinds: Kinds, cases: &str, answers: &str) {
     let (mut bytes, mut text, mut stats) = (Vec::new(), String::new(), Stats::default());
     run(seed, count, kinds, make_image::GIANTS, |current, record, words| {
         put_record(&mut bytes, record);
@@ -191,7 +240,7 @@ fn make_cases(seed: u64, count: u64, kinds: u32, cases: &str, answers: &str) {
     write(cases, &bytes);
     write(answers, text.as_bytes());
     stats.print();
-    let missing = stats.missing(count >= 4 * ENOUGH, |class| needs_kind(class) > kinds);
+    let missing = stats.missing(count >= 4 * ENOUGH, |class| !kinds.has(kind_of(class)));
     if !missing.is_empty() {
         for class in &missing {
             eprintln!("    never  {class}");
@@ -205,12 +254,13 @@ fn make_cases(seed: u64, count: u64, kinds: u32, cases: &str, answers: &str) {
 
 /// A case is kept if it reaches a class that none before it did; an image if a case kept looks at it. Small cases are
 /// asked first, then any.
-fn sample(seed: u64, count: u64, kinds: u32, cases: &str, answers: &str) {
+fn sample(seed: u64, count: u64, kinds: Kinds, cases: &str, answers: &str) {
+    let giants: &[u32] = if kinds.has(WALK) { &[0, 1, 8] } else { &[0, 1] };
     let (mut bytes, mut text, mut kept, mut stats) = (Vec::new(), String::new(), 0, Stats::default());
     for most in [60, 120, 200, 400, usize::MAX] {
         let mut image: Option<(Record, Vec<u32>)> = None;
         let mut small = false;
-        run(seed, count, kinds, 2, |current, record, words| {
+        run(seed, count, kinds, giants, |current, record, words| {
             if record.kind == IMAGE {
                 small = record.payload.len() <= most;
                 image = Some((record.clone(), words.to_vec()));
@@ -220,8 +270,9 @@ fn sample(seed: u64, count: u64, kinds: u32, cases: &str, answers: &str) {
             if !(small || alone) || record.payload.len() + words.len() > most.saturating_mul(2) {
                 return;
             }
-            let reached = classes::classes(current, record, words);
-            if reached.iter().all(|c| stats.counts.contains_key(c)) {
+            let mut reached = classes::classes(current, record, words);
+            reached.retain(|c| kinds.has(kind_of(c)) && !stats.counts.contains_key(c));
+            if reached.is_empty() {
                 return;
             }
             let mut keep = |current: &Image, record: &Record, words: &[u32]| {
@@ -240,13 +291,30 @@ fn sample(seed: u64, count: u64, kinds: u32, cases: &str, answers: &str) {
     }
     write(cases, &bytes);
     write(answers, text.as_bytes());
-    let missing = stats.missing(true, |class| needs_giant(class) || needs_kind(class) > kinds);
+    let missing = stats.missing(true, |class| needs_giant(class) || !kinds.has(kind_of(class)));
     for class in &missing {
         eprintln!("    never  {class}");
     }
     eprintln!("{kept} cases, {} bytes, answers {} bytes", bytes.len(), text.len());
     if !missing.is_empty() {
         exit(1);
+    }
+}
+
+/// What each program answers, with the right answers: an image is both's.
+fn split(cases: &str, answers: &str, lower: &str, upper: &str) {
+    let records = read_cases(cases);
+    let text = fs::read_to_string(answers).unwrap_or_else(|e| fail(&format!("{answers}: {e}")));
+    let answers_to: [(&str, fn(u32) -> bool); 2] = [(lower, |k| k <= TABLE), (upper, |k| k == IMAGE || k > TABLE)];
+    for (name, has) in answers_to {
+        let (mut bytes, mut right) = (Vec::new(), String::new());
+        for (record, answer) in records.iter().zip(text.lines()).filter(|(r, _)| has(r.kind)) {
+            put_record(&mut bytes, record);
+            right.push_str(answer);
+            right.push('\n');
+        }
+        write(&format!("{name}.cases"), &bytes);
+        write(&format!("{name}.answers"), right.as_bytes());
     }
 }
 

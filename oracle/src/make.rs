@@ -4,6 +4,7 @@ use std::num::NonZeroU32;
 use ppc750cl::{Ins, Opcode};
 
 use crate::{
+    Kinds,
     analysis::{
         RelocationTarget,
         cfa::SectionAddress,
@@ -26,15 +27,15 @@ pub struct Ground {
     pub giant: bool,
 }
 
-/// A group of records; the first is the image. Kinds go up to `highest`; of the giants the first `giants` are made.
-pub fn group(rng: &mut Rng, number: u64, giants: u32, highest: u32) -> Vec<Record> {
+/// A group of records; the first is the image. The others are of the kinds asked for; giants are made in turn.
+pub fn group(rng: &mut Rng, number: u64, giants: &[u32], kinds: Kinds) -> Vec<Record> {
     let (mut made, mut giant_one) = (None, false);
     match rng.below(100) {
         _ if number % 50 == 7 => {
             // In turn; the one with a mebibyte of data only now and then.
-            let turn = (number / 50) as u32;
+            let turn = (number / 50) as usize;
             let last = giants == GIANTS && turn % 40 == 39;
-            let which = if last { GIANTS - 1 } else { turn % giants.min(GIANTS - 1) };
+            let which = if last { EVERY_WORD } else { giants[turn % giants.len()] };
             made = Some(giant(rng, which));
             giant_one = true;
         }
@@ -68,14 +69,16 @@ pub fn group(rng: &mut Rng, number: u64, giants: u32, highest: u32) -> Vec<Recor
     } else {
         rng.from_to(15, 45)
     };
-    if giant_one && great_table(&ground) && highest >= WALK {
+    if giant_one && great_table(&ground) && kinds.has(WALK) {
         out.extend([walk(rng, &ground), walk(rng, &ground), walk(rng, &ground)]);
     }
+    let upper = [SCRIPT, SCRIPT, WALK, WALK, WALK, WRITE, READ];
+    let upper: Vec<u32> = upper.into_iter().filter(|k| kinds.has(*k)).collect();
+    let lower = (DECODE..=TABLE).any(|k| kinds.has(k));
     for _ in 0..count {
-        let upper = rng.below(100);
-        if upper < 14 && highest > TABLE && (ground.image.code_words < 5000 || upper == 0) {
-            let kind = rng.pick(&[SCRIPT, SCRIPT, WALK, WALK, WALK, WRITE, READ]).min(highest);
-            out.push(match kind {
+        let draw = rng.below(100);
+        if !upper.is_empty() && (draw < 14 || !lower) && (ground.image.code_words < 5000 || draw == 0) {
+            out.push(match rng.pick(&upper) {
                 SCRIPT => script(rng, &ground),
                 WALK => walk(rng, &ground),
                 WRITE => report_write(rng, &ground),
@@ -93,7 +96,9 @@ pub fn group(rng: &mut Rng, number: u64, giants: u32, highest: u32) -> Vec<Recor
             32..=77 => step(rng, &ground),
             _ => table(rng, &ground),
         };
-        out.push(case);
+        if kinds.has(case.kind) {
+            out.push(case);
+        }
     }
     out
 }

@@ -520,7 +520,8 @@ pub fn at_edge(rng: &mut Rng, edge: u32) -> Made {
     (t.to_words(), data)
 }
 
-pub const GIANTS: u32 = 10;
+pub const GIANTS: &[u32] = &[0, 1, 2, 3, 4, 5, 6, 7, 8];
+pub const EVERY_WORD: u32 = 9;
 
 /// Images at and past the bounds that need many words.
 pub fn giant(rng: &mut Rng, which: u32) -> Made {

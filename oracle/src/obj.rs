@@ -47,8 +47,9 @@ pub struct ObjRelocations {
 }
 
 impl ObjRelocations {
+    /// Searched by halves: a sound image's list ascends, as the Rust's own map does.
     pub fn at(&self, address: u32) -> Option<&ObjReloc> {
-        self.list.iter().find(|r| r.0 == address).map(|r| &r.1)
+        self.list.binary_search_by_key(&address, |r| r.0).ok().map(|i| &self.list[i].1)
     }
 }
 
@@ -153,12 +154,15 @@ impl ObjSymbols {
         address: u32,
         kind: ObjSymbolKind,
     ) -> Result<Option<(u32, &ObjSymbol)>> {
-        let found = self
-            .list
-            .iter()
-            .enumerate()
-            .find(|(_, s)| s.kind == kind && (s.section == Some(section) || on(13)) && s.address == address as u64);
-        Ok(found.map(|(i, s)| (i as u32, s)))
+        let is = |s: &ObjSymbol| s.kind == kind && s.section == Some(section) && s.address == address as u64;
+        if on(13) {
+            let found = self.list.iter().position(|s| s.kind == kind && s.address == address as u64);
+            return Ok(found.map(|i| (i as u32, &self.list[i])));
+        }
+        // Objects stand last and ascend.
+        let at =
+            self.list.partition_point(|s| s.kind != kind || (s.section, s.address) < (Some(section), address as u64));
+        Ok(self.list.get(at).filter(|s| is(s)).map(|s| (at as u32, s)))
     }
 }
 

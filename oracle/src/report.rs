@@ -56,7 +56,7 @@ pub fn report(obj: &ObjInfo, map: &[u32]) -> Vec<u8> {
                 while at < words && bit(map, first + at) {
                     at += 1;
                 }
-                runs.push((from - gap_from, at - from));
+                runs.push((from - gap_from, at - from + on(94) as u32));
                 gap_from = if on(88) { 0 } else { at };
             } else {
                 at += 1;
@@ -84,7 +84,7 @@ fn visited(obj: &ObjInfo, mut bytes: &[u8]) -> Option<Vec<bool>> {
             let (gap, length) = (take_number(bytes)?, take_number(bytes)?);
             // Maximal runs: words between two of them, and words in each.
             agree(length >= 1 && (run == 0 || gap >= 1 || on(79)))?;
-            agree(out.len() as u64 + gap as u64 + length as u64 <= end)?;
+            agree(out.len() as u64 + gap as u64 + length as u64 <= end + on(95) as u64)?;
             out.resize(out.len() + gap as usize, false);
             out.resize(out.len() + length as usize, true);
         }

@@ -1,5 +1,7 @@
 //! Executor scripts and walks: executor.rs, driven from the outside, and around it what document 01 adds: the stack's
 //! room (5), the map's length (4), judged pushes and replies, the walk's own rules.
+use std::collections::BTreeSet;
+
 use plants::on;
 
 use crate::{
@@ -150,7 +152,7 @@ impl Script<'_, '_> {
                     let (kind, place) = (self.p.one(), self.p.place());
                     let changed = (self.p.one() == 1).then(|| self.p.state());
                     let number = match &waits {
-                        _ if self.short => 4,
+                        _ if self.short && !(on(96) && !waiting) => 4,
                         None => 11,
                         _ if !waiting => 11,
                         Some((_, at)) if kind == 1 && place.section != at.section => 6,
@@ -158,10 +160,12 @@ impl Script<'_, '_> {
                         _ => 0,
                     };
                     self.out.push(number);
-                    if let (0, Some((vm, _))) = (number, &mut waits) {
-                        if let Some(changed) = changed {
-                            **vm = *changed;
-                        }
+                    if let (Some((vm, _)), Some(changed)) = (&mut waits, changed)
+                        && (number == 0 || on(97))
+                    {
+                        **vm = *changed;
+                    }
+                    if number == 0 {
                         reply = Some(match kind {
                             0 => Reply::Continue,
                             1 => Reply::Jump(place),
@@ -261,16 +265,22 @@ pub fn run_script(current: &Image, p: &mut Words) -> (Vec<u32>, Standing) {
 const TABLE_ENTRIES: usize = 1024;
 
 #[derive(Default)]
-struct Counts {
+pub struct Counts {
     steps: u64,
     blocks: u64,
     read: u64,
     not_read: u64,
-    /// Of those not read, the External ones; and states pushed for linked branches.
-    external: u64,
-    linked: u64,
-    /// The most distinct entries of a table.
-    entries: usize,
+    /// What happened on the way, for the classes; nothing is kept where nobody watches.
+    seen: BTreeSet<String>,
+    watched: bool,
+}
+
+impl Counts {
+    fn saw(&mut self, what: &str) {
+        if self.watched {
+            self.seen.insert(what.to_string());
+        }
+    }
 }
 
 struct Walk<'a> {
@@ -285,37 +295,57 @@ struct Walk<'a> {
 
 impl Walk<'_> {
     /// Nothing: the stack is full (5).
-    fn push(&self, executor: &mut Executor, place: SectionAddress, vm: &VM) -> Option<()> {
+    fn push(&self, executor: &mut Executor, place: SectionAddress, vm: impl FnOnce() -> Box<VM>) -> Option<()> {
         if executor.vm_stack.len() >= self.slots {
             return None;
         }
-        executor.push(place, vm.clone_all(), !on(76));
+        executor.push(place, vm(), !on(76));
         Some(())
     }
 
-    /// A target that is pushed, or a table that is read and whose entries are.
-    fn follow(&mut self, executor: &mut Executor, target: &BranchTarget, vm: &VM) -> Option<()> {
+    /// A target that is pushed, or a table that is read and whose entries are. The state is made only where it is pushed.
+    fn follow(&mut self, executor: &mut Executor, target: &BranchTarget, vm: impl FnOnce() -> Box<VM>) -> Option<()> {
         match target {
             BranchTarget::Address(RelocationTarget::Address(place)) if judge_place(self.obj, *place) == 0 => {
-                self.push(executor, *place, vm)
+                let pushed = self.push(executor, *place, vm);
+                self.counts.saw(if pushed.is_some() { "a target pushed" } else { "5 at a target" });
+                pushed
+            }
+            BranchTarget::Address(target) => {
+                let address = matches!(target, RelocationTarget::Address(_));
+                self.counts.saw(if address { "a target that is no code word" } else { "an External target" });
+                Some(())
             }
             BranchTarget::JumpTable { address: RelocationTarget::External, .. } => {
                 self.counts.not_read += !on(86) as u64;
-                self.counts.external += 1;
+                self.counts.saw("an External table");
                 Some(())
             }
             BranchTarget::JumpTable { address: RelocationTarget::Address(table), size } => {
                 let read = entries(self.obj, *table, *size, self.start, self.end);
-                self.counts.entries = read.iter().map(|r| r.0.len()).fold(self.counts.entries, usize::max);
+                let how = if size.is_some() { "with a size" } else { "with no size" };
+                match &read {
+                    Ok((found, _)) if found.len() > TABLE_ENTRIES => {
+                        self.counts.saw("a table of more than 1,024 entries")
+                    }
+                    Ok((found, _)) if found.len() == TABLE_ENTRIES => self.counts.saw("a table of 1,024 entries"),
+                    Ok((found, _)) if found.is_empty() => self.counts.saw(&format!("a table {how} without entries")),
+                    Ok(_) => self.counts.saw(&format!("a table {how} read")),
+                    Err(number) => self.counts.saw(&format!("a table {how} refused by {number}")),
+                }
                 match read {
                     Ok((found, _))
                         if found.len() + on(91) as usize <= TABLE_ENTRIES + on(92) as usize * 999
-                            && !(on(87) && found.is_empty()) =>
+                            && !(on(87) && found.is_empty() || on(93) && size.is_none()) =>
                     {
                         self.counts.read += 1;
+                        let vm = vm();
                         for place in found {
-                            if judge_place(self.obj, place) == 0 {
-                                self.push(executor, place, vm)?;
+                            if judge_place(self.obj, place) != 0 {
+                                self.counts.saw("an entry that is no code word");
+                            } else if self.push(executor, place, || vm.clone_all()).is_none() {
+                                self.counts.saw("5 at an entry");
+                                return None;
                             }
                         }
                     }
@@ -334,35 +364,61 @@ impl Walk<'_> {
         }
         // "Blocks begun never exceed W; steps never exceed W times W."
         assert!(self.counts.blocks <= self.words && self.counts.steps <= self.words * self.words);
-        let followed = match &data.result {
+        let followed = match data.result {
             StepResult::Continue | StepResult::LoadStore { .. } => return ExecCbResult::Continue,
             StepResult::Illegal => Some(()),
             StepResult::Jump(BranchTarget::Address(RelocationTarget::Address(place)))
-                if judge_place(self.obj, *place) == 0 && place.section == data.ins_addr.section =>
+                if judge_place(self.obj, place) == 0 && place.section == data.ins_addr.section =>
             {
-                return ExecCbResult::Jump(*place);
+                return ExecCbResult::Jump(place);
             }
-            StepResult::Jump(target) => self.follow(data.executor, target, data.vm),
-            StepResult::Branch(branches) => branches.iter().try_for_each(|b| {
+            StepResult::Jump(BranchTarget::Address(_)) if on(98) => Some(()),
+            StepResult::Jump(target) => {
+                let held = data.executor.vm_stack.len();
+                let followed = self.follow(data.executor, &target, || data.vm.clone_all());
+                if matches!(target, BranchTarget::Address(_)) && data.executor.vm_stack.len() > held {
+                    self.counts.saw("a jump into another section");
+                }
+                followed
+            }
+            StepResult::Branch(branches) => branches.into_iter().try_for_each(|b| {
                 if on(77) && b.link {
                     return Some(());
                 }
                 let held = data.executor.vm_stack.len();
-                self.follow(data.executor, &b.target, &b.vm)?;
-                self.counts.linked += (b.link && data.executor.vm_stack.len() > held) as u64;
+                self.follow(data.executor, &b.target, || b.vm)?;
+                if b.link && data.executor.vm_stack.len() > held {
+                    self.counts.saw("a linked target pushed");
+                }
                 Some(())
             }),
         };
         // End carries 5 out.
         if followed.is_some() { ExecCbResult::EndBlock } else { ExecCbResult::End(()) }
     }
+
+    /// From the starts to the end; nothing: the stack was full (5).
+    fn run(&mut self, executor: &mut Executor, starts: &[SectionAddress], fresh: &VM) -> Option<()> {
+        if starts.iter().try_for_each(|s| self.push(executor, *s, || fresh.clone_all())).is_none() {
+            self.counts.saw("5 at a start");
+            return None;
+        }
+        // "run until the stack is empty, also past Ended"
+        while !executor.vm_stack.is_empty() {
+            if let Ok(Some(())) = executor.run(self.obj, |data| Ok(self.turn(data))) {
+                return None;
+            }
+        }
+        Some(())
+    }
 }
 
 pub fn walk(current: &Image, p: &mut Words) -> Vec<u32> {
-    run_walk(current, p).0
+    run_walk(current, p, 1, false).0
 }
 
-fn run_walk(current: &Image, p: &mut Words) -> (Vec<u32>, Counts) {
+/// The walk done so often, each time from the beginning (bench/walk counts what it costs), and if watched the classes it reaches.
+pub fn run_walk(current: &Image, p: &mut Words, turns: u32, watched: bool) -> (Vec<u32>, Counts) {
     let (slots, count, fill) = (p.one() as usize, p.one() as usize, p.one());
     let mut given = || {
         let there = p.one() == 1;
@@ -389,14 +445,13 @@ fn run_walk(current: &Image, p: &mut Words) -> (Vec<u32>, Counts) {
     let mut w = Walk { obj, words: current.code_words as u64, slots, start, end, counts: Counts::default() };
     let mut executor = Executor::new(obj);
     let fresh = VM::new_with_base(r2, r13);
-    let mut pushed = starts.iter().try_for_each(|s| w.push(&mut executor, *s, &fresh));
-    // "run until the stack is empty, also past Ended"
-    while pushed.is_some() && !executor.vm_stack.is_empty() {
-        if let Ok(Some(())) = executor.run(obj, |data| Ok(w.turn(data))) {
-            pushed = None;
-        }
+    let mut walked = Some(());
+    for _ in 0..turns {
+        w.counts = Counts { watched, ..Counts::default() };
+        executor = Executor::new(obj);
+        walked = w.run(&mut executor, &starts, &fresh);
     }
-    let mut out = vec![if pushed.is_some() { 0 } else { 5 }];
+    let mut out = vec![if walked.is_some() { 0 } else { 5 }];
     for count in [w.counts.steps, w.counts.blocks, w.counts.read, w.counts.not_read] {
         out.extend([(count >> 32) as u32, count as u32]);
     }
@@ -532,19 +587,9 @@ fn skip_result(a: &mut Words) {
 }
 
 pub fn walk_classes(out: &mut Vec<String>, current: &Image, p: &mut Words, answer: &[u32]) {
-    let counts = run_walk(current, &mut Words::new(p.left)).1;
-    if counts.external > 0 {
-        put!(out, "walk: an External table");
-    }
-    if counts.entries >= TABLE_ENTRIES {
-        put!(
-            out,
-            "walk: a table of {} entries",
-            if counts.entries == TABLE_ENTRIES { "1,024" } else { "more than 1,024" }
-        );
-    }
-    if counts.linked > 0 {
-        put!(out, "walk: a linked target pushed");
+    let counts = run_walk(current, &mut Words::new(p.left), 1, true).1;
+    for what in &counts.seen {
+        put!(out, "walk: {what}");
     }
     let (slots, count, fill) = (p.one(), p.one(), p.one());
     let (r2, _, r13, _) = (p.one(), p.one(), p.one(), p.one());

@@ -1,33 +1,18 @@
 // The answer to each kind of case, as docs/FORMATS.md lays it out.
-ghost use Prim.Native.Nat.{_≤_};
-ghost use lib.ListN.{length};
 use crate::asked;
-use crate::print;
-use crate::read;
-use crate::states;
+use crate::rooms;
 use decoder::Op;
-use image::Judged;
+use exchange::file;
+use exchange::print;
+use exchange::read;
+use exchange::results;
 use jump_tables::Table;
 use jump_tables::TableAnswer;
-use places::RelocationTarget;
-use step::Branch;
-use step::Refusal;
-use step::StepResult;
-use step::Stepped;
-use vm::Gpr;
-use vm::VM;
 
 // Writes the answer into the line and answers where it ends.
-pub(crate) fn answer(
-    kind: u32,
-    p: &[u8],
-    im: &[u32],
-    data: &[u8],
-    entries: &mut [u64],
-    line: &mut [u8],
-) -> usize {
+pub(crate) fn answer(kind: u32, p: &[u32], im: &[u32], data: &[u8], line: &mut [u32]) -> usize {
     match kind {
-        1 => image(im, data, line),
+        1 => file::judged(im, data, line),
         2 => decode(p, line),
         3 => print::word(
             line,
@@ -42,15 +27,8 @@ pub(crate) fn answer(
         5 => branch_dest(p, line),
         6 => asked::lookup(p, im, data, line),
         7 => step(p, im, data, line),
-        8 => table(p, im, data, entries, line),
+        8 => table(p, im, data, line),
         _ => 0,
-    }
-}
-
-fn image(im: &[u32], data: &[u8], line: &mut [u8]) -> usize {
-    match image::check_image(im, data) {
-        Judged::Sound => print::word(line, 0, 0),
-        Judged::Broken => print::word(line, 0, 1),
     }
 }
 
@@ -78,7 +56,7 @@ fn written(w: u32, op: Op) -> u32 {
     if is_other(op) { decoder::written(w) } else { 0 }
 }
 
-fn decode(p: &[u8], line: &mut [u8]) -> usize {
+fn decode(p: &[u32], line: &mut [u32]) -> usize {
     let w = read::word(p, 0);
     let d = decoder::decode(w);
     let op = d.op;
@@ -88,28 +66,28 @@ fn decode(p: &[u8], line: &mut [u8]) -> usize {
     registers(w, line, at)
 }
 
-fn registers(w: u32, line: &mut [u8], at: usize) -> usize {
+fn registers(w: u32, line: &mut [u32], at: usize) -> usize {
     let at = print::word(line, at, words::field::rd(w) as u32);
     let at = print::word(line, at, words::field::ra(w) as u32);
     let at = print::word(line, at, words::field::rb(w) as u32);
     fields(w, line, at)
 }
 
-fn fields(w: u32, line: &mut [u8], at: usize) -> usize {
+fn fields(w: u32, line: &mut [u32], at: usize) -> usize {
     let at = print::word(line, at, words::field::mb(w));
     let at = print::word(line, at, words::field::me(w));
     let at = print::word(line, at, words::field::simm(w));
     last_fields(w, line, at)
 }
 
-fn last_fields(w: u32, line: &mut [u8], at: usize) -> usize {
+fn last_fields(w: u32, line: &mut [u32], at: usize) -> usize {
     let at = print::word(line, at, words::field::uimm(w));
     let at = print::word(line, at, words::field::crfd(w) as u32);
     let at = print::flag(line, at, words::field::l(w));
     flags(w, line, at)
 }
 
-fn flags(w: u32, line: &mut [u8], at: usize) -> usize {
+fn flags(w: u32, line: &mut [u32], at: usize) -> usize {
     let at = print::word(line, at, words::field::spr(w));
     let at = print::flag(line, at, words::field::lk(w));
     print::flag(line, at, words::field::aa(w))
@@ -123,7 +101,7 @@ fn is_direct_branch(op: Op) -> bool {
     }
 }
 
-fn branch_dest(p: &[u8], line: &mut [u8]) -> usize {
+fn branch_dest(p: &[u32], line: &mut [u32]) -> usize {
     let w = read::word(p, 0);
     let d = decoder::decode(w);
     let op = d.op;
@@ -135,85 +113,11 @@ fn branch_dest(p: &[u8], line: &mut [u8]) -> usize {
     print::word(line, at, 0)
 }
 
-fn refusal(why: Refusal) -> u32 {
-    match why {
-        Refusal::BrokenImage => 1,
-        Refusal::NotCode => 2,
-        Refusal::Misaligned => 3,
-    }
-}
-
-fn step(p: &[u8], im: &[u32], data: &[u8], line: &mut [u8]) -> usize {
+fn step(p: &[u32], im: &[u32], data: &[u8], line: &mut [u32]) -> usize {
     let s = read::state(p, 3);
     let before = s.state;
     let r = step::step(im, data, read::place(p, 0), read::word(p, 2), before);
-    stepped(line, 0, r, before)
-}
-
-// A step's answer; of Illegal, Jump and Branch the state after is the one handed in.
-pub(crate) fn stepped(line: &mut [u8], at: usize, r: Stepped, before: VM) -> usize {
-    let result = r.result;
-    let vm = r.vm;
-    let other = r.other;
-    match result {
-        StepResult::Refused(why) => {
-            let at = print::word(line, at, refusal(why));
-            states::state(line, at, before)
-        }
-        StepResult::Continue => with_state(line, at, 0, vm),
-        StepResult::LoadStore {
-            address,
-            source,
-            source_reg,
-        } => {
-            let at = outcome(line, at, 1);
-            accessed(line, at, address, source, source_reg, vm)
-        }
-        StepResult::Illegal => with_state(line, at, 2, before),
-        StepResult::Jump(t) => {
-            let at = outcome(line, at, 3);
-            let at = print::branch_target(line, at, t);
-            states::state(line, at, before)
-        }
-        StepResult::Branch { first, second } => {
-            let at = outcome(line, at, 4);
-            let at = branch(line, at, first, vm);
-            let at = branch(line, at, second, other);
-            states::state(line, at, before)
-        }
-    }
-}
-
-fn with_state(line: &mut [u8], at: usize, n: u32, s: VM) -> usize {
-    let at = outcome(line, at, n);
-    states::state(line, at, s)
-}
-
-fn accessed(
-    line: &mut [u8],
-    at: usize,
-    address: RelocationTarget,
-    source: Gpr,
-    source_reg: u8,
-    s: VM,
-) -> usize {
-    let at = print::target(line, at, address);
-    let at = print::register(line, at, source);
-    let at = print::word(line, at, source_reg as u32);
-    states::state(line, at, s)
-}
-
-fn outcome(line: &mut [u8], at: usize, n: u32) -> usize {
-    let at = print::word(line, at, 0);
-    print::word(line, at, n)
-}
-
-fn branch(line: &mut [u8], at: usize, b: Branch, s: VM) -> usize {
-    let target = b.target;
-    let link = b.link;
-    let at = print::branch_target(line, at, target);
-    let at = print::flag(line, at, link);
-    states::state(line, at, s)
+    results::stepped(line, 0, r, before)
 }
 
 fn table_answer(a: TableAnswer) -> u32 {
@@ -236,7 +140,12 @@ fn fill(entries: &mut [u64], key: u64) {
     }
 }
 
-fn table(p: &[u8], im: &[u32], data: &[u8], entries: &mut [u64], line: &mut [u8]) -> usize {
+fn table(p: &[u32], im: &[u32], data: &[u8], line: &mut [u32]) -> usize {
+    let mut room = rooms::entries();
+    table_with(p, im, data, &mut room, line)
+}
+
+fn table_with(p: &[u32], im: &[u32], data: &[u8], entries: &mut [u64], line: &mut [u32]) -> usize {
     let asked = read::word(p, 8) as usize;
     let word = read::word(p, 9) as u64;
     let key = word * 0x1_0000_0000 + word;
@@ -247,12 +156,12 @@ fn table(p: &[u8], im: &[u32], data: &[u8], entries: &mut [u64], line: &mut [u8]
 }
 
 fn table_in(
-    p: &[u8],
+    p: &[u32],
     im: &[u32],
     data: &[u8],
     entries: &mut [u64],
     key: u64,
-    line: &mut [u8],
+    line: &mut [u32],
 ) -> usize {
     fill(entries, key);
     let end = read::maybe_place(p, 5);
@@ -268,7 +177,7 @@ fn table_in(
     print_table(t, entries, line)
 }
 
-fn print_table(t: Table, entries: &[u64], line: &mut [u8]) -> usize {
+fn print_table(t: Table, entries: &[u64], line: &mut [u32]) -> usize {
     let answer = t.answer;
     let count = (t.count % 0x1_0000_0000) as u32;
     let at = print::word(line, 0, table_answer(answer));
@@ -277,13 +186,12 @@ fn print_table(t: Table, entries: &[u64], line: &mut [u8]) -> usize {
     keys(entries, line, at)
 }
 
-fn keys(entries: &[u64], line: &mut [u8], at: usize) -> usize {
+fn keys(entries: &[u64], line: &mut [u32], at: usize) -> usize {
     let mut at = at;
     let mut i = 0;
     while i < entries.len() {
         let k = entries[i];
-        at = print::word(line, at, (k / 0x1_0000_0000 % 0x1_0000_0000) as u32);
-        at = print::word(line, at, (k % 0x1_0000_0000) as u32);
+        at = print::long(line, at, k);
         i += 1;
     }
     at

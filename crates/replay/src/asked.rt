@@ -4,8 +4,8 @@ ghost use mathlib.Core.Bool.{true};
 ghost use Prim.Native.Nat.{_<_};
 ghost use lib.ListN.{length};
 ghost use Rattle.image.specs.Rules.{tablesSound, dataInside};
-use crate::print;
-use crate::read;
+use exchange::print;
+use exchange::read;
 use image::Judged;
 use lookups::CodePlace;
 use lookups::MaybeWord;
@@ -14,7 +14,7 @@ use lookups::Wanted;
 use places::MaybeTarget;
 use search::Found;
 
-pub(crate) fn lookup(p: &[u8], im: &[u32], bytes: &[u8], line: &mut [u8]) -> usize {
+pub(crate) fn lookup(p: &[u32], im: &[u32], bytes: &[u8], line: &mut [u32]) -> usize {
     match image::check_image(im, bytes) {
         Judged::Broken => print::word(line, 0, 1),
         Judged::Sound => {
@@ -24,7 +24,7 @@ pub(crate) fn lookup(p: &[u8], im: &[u32], bytes: &[u8], line: &mut [u8]) -> usi
     }
 }
 
-fn in_tables(p: &[u8], im: &[u32], bytes: &[u8], line: &mut [u8], at: usize) -> usize
+fn in_tables(p: &[u32], im: &[u32], bytes: &[u8], line: &mut [u32], at: usize) -> usize
     requires { ⌜ (tablesSound (now im) ≡ true) × (dataInside (now im) (length (now bytes)) ≡ true) ⌝ }
 {
     let which = read::word(p, 0);
@@ -48,12 +48,12 @@ fn in_tables(p: &[u8], im: &[u32], bytes: &[u8], line: &mut [u8], at: usize) -> 
     }
 }
 
-fn two(line: &mut [u8], at: usize, a: u32, b: u32) -> usize {
+fn two(line: &mut [u32], at: usize, a: u32, b: u32) -> usize {
     let at = print::word(line, at, a);
     print::word(line, at, b)
 }
 
-fn found(line: &mut [u8], at: usize, f: Found) -> usize {
+fn found(line: &mut [u32], at: usize, f: Found) -> usize {
     match f {
         Found::Nothing => two(line, at, 0, 0),
         Found::At(i) => two(line, at, 1, (i % 0x1_0000_0000) as u32),
@@ -68,7 +68,7 @@ fn wanted(n: u32) -> Wanted {
     }
 }
 
-fn relocation(line: &mut [u8], at: usize, r: Relocation) -> usize {
+fn relocation(line: &mut [u32], at: usize, r: Relocation) -> usize {
     match r {
         Relocation::Nothing => {
             let at = print::word(line, at, 0);
@@ -85,7 +85,7 @@ fn relocation(line: &mut [u8], at: usize, r: Relocation) -> usize {
     }
 }
 
-fn word_there(line: &mut [u8], at: usize, m: MaybeWord) -> usize {
+fn word_there(line: &mut [u32], at: usize, m: MaybeWord) -> usize {
     match m {
         MaybeWord::Missing => two(line, at, 0, 0),
         MaybeWord::Read(w) => two(line, at, 1, w),
@@ -93,7 +93,7 @@ fn word_there(line: &mut [u8], at: usize, m: MaybeWord) -> usize {
 }
 
 // How many bytes, two running sums, and the first four bytes.
-fn sums(bytes: &[u8], line: &mut [u8], at: usize) -> usize {
+fn sums(bytes: &[u8], line: &mut [u32], at: usize) -> usize {
     let mut first: u32 = 0;
     let mut second: u32 = 0;
     let mut i = 0;
@@ -103,7 +103,7 @@ fn sums(bytes: &[u8], line: &mut [u8], at: usize) -> usize {
         i += 1;
     }
     let at = two(line, at, (bytes.len() % 0x1_0000_0000) as u32, first);
-    two(line, at, second, front(bytes))
+    two(line, at, second, print::four(bytes, 0))
 }
 
 fn wide(b: u8) -> u32
@@ -112,17 +112,7 @@ fn wide(b: u8) -> u32
     b as u32
 }
 
-fn byte_or_zero(bytes: &[u8], i: usize) -> u32 {
-    if i < bytes.len() { wide(bytes[i]) } else { 0 }
-}
-
-fn front(bytes: &[u8]) -> u32 {
-    let a = (byte_or_zero(bytes, 0) << 24) | (byte_or_zero(bytes, 1) << 16);
-    let b = (byte_or_zero(bytes, 2) << 8) | byte_or_zero(bytes, 3);
-    a | b
-}
-
-fn visited_bit(p: &[u8], im: &[u32], line: &mut [u8], at: usize) -> usize
+fn visited_bit(p: &[u32], im: &[u32], line: &mut [u32], at: usize) -> usize
     requires { ⌜ tablesSound (now im) ≡ true ⌝ }
 {
     let place = read::place(p, 1);

@@ -1,4 +1,4 @@
--- Document 01's C13, by computation: one Code section of 8 words, words 0, 1, 2 and 5 visited, is whole 01 01 02 00 03 02 01.
+-- The report of document 01's C13 (crate `cases`) written and read: what the two functions answer and leave, by computation.
 -- Assumes nothing.
 use mathlib.Core.Path.{_≡_, refl}
 use mathlib.Core.List.{List, [], _∷_}
@@ -10,7 +10,7 @@ use Rattle.visited.specs.Bits.{withRun, cleared}
 use Rattle.report.specs.declared.Wrote.the-variants.{Bytes}
 use Rattle.report.specs.declared.Done.the-variants.{Done}
 use Rattle.report.specs.Runs.{runs, tab}
-use Rattle.report.specs.Bytes.{runBytes, sectionsBytes, reportOf}
+use Rattle.report.specs.Bytes.{runBytes, sectionsBytes}
 use Rattle.report.specs.Reading.{readRuns, readSections, readReport}
 use Rattle.report.specs.Marks.{withRuns, withSections}
 use Rattle.report.specs.Answers.{writeAnswer, writeLeaves, readAnswer, readLeaves}
@@ -25,10 +25,6 @@ c13-map = 0x27 ∷ []
 
 abbrev c13-report : List ℕ
 c13-report = 0x01 ∷ 0x01 ∷ 0x02 ∷ 0x00 ∷ 0x03 ∷ 0x02 ∷ 0x01 ∷ []
-
-pub c13 : reportOf c13-image c13-map ≡ c13-report
-unfolding wordsBefore groups runs tab runBytes sectionsBytes
-c13 = refl
 
 -- written into eight bytes it leaves the last as it was
 pub c13-written : writeAnswer c13-image 32 c13-map 8 ≡ Bytes 7

@@ -1,5 +1,5 @@
 -- What holds of reports. RunLaws, Laying and ReadLaws serve the code; Standing, Fitting, Forth, Back, Showing and
--- Marking lead to Theorems; Cases has document 01's C13.
+-- Marking lead to Theorems; Cases has what writing and reading C13 leaves.
 pub mod RunLaws
 pub mod Laying
 pub mod ReadLaws

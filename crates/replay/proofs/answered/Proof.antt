@@ -7,22 +7,19 @@ use Rattle.replay.proofs.answered.Statement.{statement}
 use Rattle.replay.proofs.answered.Tie as tie
 
 slice-aggregate-answer : tie.Need-slice-aggregate-answer
-slice-aggregate-answer c = let a = c .before .before .before .before .before .before .before .before .before .args in sym (length-take-le (a .n) (a .payload .now) (omega arith))
+slice-aggregate-answer c = let a = c .before .before .before .before .before .before .before .before .args in sym (length-take-le (a .n) (a .payload .now) (omega arith))
 
 slice-aggregate-answer-2 : tie.Need-slice-aggregate-answer-2
-slice-aggregate-answer-2 c = let a = c .before .before .before .before .before .before .before .before .before .before .args in sym (length-take-le (a .words) (a .im .now) (omega arith))
+slice-aggregate-answer-2 c = let a = c .before .before .before .before .before .before .before .before .before .args in sym (length-take-le (a .words) (a .im .now) (omega arith))
 
 slice-aggregate-answer-3 : tie.Need-slice-aggregate-answer-3
-slice-aggregate-answer-3 c = let a = c .before .before .before .before .before .before .before .before .before .before .before .args in sym (length-take-le (a .bytes) (a .«data» .now) (omega arith))
+slice-aggregate-answer-3 c = let a = c .before .before .before .before .before .before .before .before .before .before .args in sym (length-take-le (a .bytes) (a .«data» .now) (omega arith))
 
 answer-requires : tie.Need-answer-requires
 answer-requires c κs = search needs
 
 same-length : tie.Need-same-length
 same-length c = search needs
-
-same-length-2 : tie.Need-same-length-2
-same-length-2 c = search needs
 
 returns : tie.Need-returns
 returns c = search needs
@@ -45,7 +42,6 @@ answered-spec =
     slice-aggregate-answer-3
     answer-requires
     same-length
-    same-length-2
     returns
     returns-2
     returns-3

@@ -1,15 +1,15 @@
 -- `replay::run` meets its contract. Assumes nothing.
-use mathlib.Core.Path.{_≡_}
 use lib.ListN.{length}
+use mathlib.Core.Path.{_≡_}
 use borrow.Author.Needs.{needs}
 use Rattle.replay.proofs.run.Statement.{statement}
 use Rattle.replay.proofs.run.Tie as tie
 
 abbrev Inv-loop : tie.InvT-loop
-Inv-loop payload₀ im₀ data₀ entries₀ line₀ words₀ bytes₀ left₀ payload im «data» entries line words bytes left = (length payload ≡ length payload₀) × (length im ≡ length im₀) × (length «data» ≡ length data₀) × (length entries ≡ length entries₀) × (length line ≡ length line₀)
+Inv-loop raw₀ payload₀ im₀ data₀ line₀ now₀ left₀ raw payload im «data» line now left = (length raw ≡ length raw₀) × (length payload ≡ length payload₀) × (length im ≡ length im₀) × (length «data» ≡ length data₀) × (length line ≡ length line₀)
 
 abbrev μ-loop : tie.MeasureT-loop
-μ-loop payload₀ im₀ data₀ entries₀ line₀ words₀ bytes₀ left₀ payload im «data» entries line words bytes left = left
+μ-loop raw₀ payload₀ im₀ data₀ line₀ now₀ left₀ raw payload im «data» line now left = left
 
 loop-holds : tie.Need-loop-holds Inv-loop μ-loop
 loop-holds c = search needs
@@ -35,17 +35,8 @@ same-length-5 c = search needs
 returns : tie.Need-returns Inv-loop μ-loop
 returns c = search needs
 
-read-payload-requires : tie.Need-read-payload-requires Inv-loop μ-loop
-read-payload-requires c κs = search needs
-
-advance-requires : tie.Need-advance-requires Inv-loop μ-loop
-advance-requires c κs = search needs
-
-answered-requires : tie.Need-answered-requires Inv-loop μ-loop
-answered-requires c κs = search needs
-
-flush-requires : tie.Need-flush-requires Inv-loop μ-loop
-flush-requires c κs = search needs
+one-record-requires : tie.Need-one-record-requires Inv-loop μ-loop
+one-record-requires c κs = search needs
 
 sub-left : tie.Need-sub-left Inv-loop μ-loop
 sub-left c = search needs
@@ -88,10 +79,7 @@ run-spec =
     same-length-4
     same-length-5
     returns
-    read-payload-requires
-    advance-requires
-    answered-requires
-    flush-requires
+    one-record-requires
     sub-left
     loop-less
     loop-again

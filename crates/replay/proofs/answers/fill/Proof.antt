@@ -1,6 +1,6 @@
 -- `replay::answers::fill` meets its contract. Assumes nothing.
-use lib.ListN.{length, length-set}
 use Prim.Native.Nat.{_≤_, _-_}
+use lib.ListN.{length, length-set}
 use mathlib.Core.Path.{_≡_}
 use native.Mathlib.Omega.{arith}
 use borrow.Author.Needs.{needs}

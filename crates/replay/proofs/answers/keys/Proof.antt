@@ -1,7 +1,7 @@
 -- `replay::answers::keys` meets its contract. Assumes nothing.
 use Prim.Native.Nat.{_≤_, _-_}
-use mathlib.Core.Path.{_≡_}
 use lib.ListN.{length}
+use mathlib.Core.Path.{_≡_}
 use borrow.Author.Needs.{needs}
 use Rattle.replay.proofs.answers.keys.Statement.{statement}
 use Rattle.replay.proofs.answers.keys.Tie as tie
@@ -21,17 +21,8 @@ mul-k c = search needs
 shared-slice-read-k : tie.Need-shared-slice-read-k Inv-loop μ-loop
 shared-slice-read-k c = search needs
 
-cast-word : tie.Need-cast-word Inv-loop μ-loop
-cast-word c = search needs
-
-word-requires : tie.Need-word-requires Inv-loop μ-loop
-word-requires c κs = search needs
-
-cast-word-2 : tie.Need-cast-word-2 Inv-loop μ-loop
-cast-word-2 c = search needs
-
-word-requires-2 : tie.Need-word-requires-2 Inv-loop μ-loop
-word-requires-2 c κs = search needs
+long-requires : tie.Need-long-requires Inv-loop μ-loop
+long-requires c κs = search needs
 
 add-i : tie.Need-add-i Inv-loop μ-loop
 add-i c = search needs
@@ -57,10 +48,7 @@ keys-spec =
     loop-holds
     mul-k
     shared-slice-read-k
-    cast-word
-    word-requires
-    cast-word-2
-    word-requires-2
+    long-requires
     add-i
     loop-less
     loop-again

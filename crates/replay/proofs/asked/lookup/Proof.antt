@@ -1,6 +1,6 @@
 -- `replay::asked::lookup` meets its contract. Assumes nothing.
-use Rattle.jump_tables.proofs.Outcomes.{judged-sound}
 use Rattle.image.proofs.SoundTables.{tables-of-sound, data-of-sound}
+use Rattle.jump_tables.proofs.Outcomes.{judged-sound}
 use lib.ListN.{length}
 use mathlib.Core.Path.{sym, _∙_}
 use borrow.Author.Needs.{needs}

@@ -44,8 +44,8 @@ cast-two c = search needs
 two-requires : tie.Need-two-requires Inv-loop μ-loop
 two-requires c κs = search needs
 
-front-requires : tie.Need-front-requires Inv-loop μ-loop
-front-requires c κs = search needs
+four-requires : tie.Need-four-requires Inv-loop μ-loop
+four-requires c κs = search needs
 
 two-requires-2 : tie.Need-two-requires-2 Inv-loop μ-loop
 two-requires-2 c κs = search needs
@@ -73,7 +73,7 @@ sums-spec =
     loop-again
     cast-two
     two-requires
-    front-requires
+    four-requires
     two-requires-2
     same-length
     returns)

@@ -1,6 +1,6 @@
 -- `replay::asked::visited_bit` meets its contract. Assumes nothing.
-use Rattle.lookups.proofs.CodeBytes.{fine-place}
 use Rattle.image.proofs.SoundTables.{laid}
+use Rattle.lookups.proofs.CodeBytes.{fine-place}
 use mathlib.Core.Path.{sym, _∙_}
 use borrow.Author.Needs.{needs}
 use Rattle.replay.proofs.asked.visited_bit.Statement.{statement}

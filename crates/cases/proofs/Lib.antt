@@ -1,0 +1,2 @@
+-- The table of cases, computed.
+pub mod Cases
