@@ -26,7 +26,7 @@ use options::Options;
 pub fn run(file: &mut [u8]) {
     let o = options::read();
     if !o.known {
-        say::last(b"unknown option");
+        say::line(b"unknown option");
         return;
     }
     let n = io::read_full(STDIN_FILENO, file);
@@ -104,8 +104,8 @@ fn show(data: &[u8], im: &[u32], starts: &[u64], map: &[u32], w: Walked, o: Opti
     let answer = w.answer;
     match answer {
         WalkAnswer::BrokenImage => refusals::broken_image(faults::broken_rule(im, data.len())),
-        WalkAnswer::NotCode => refusals::bad_start(im, starts, 2),
-        WalkAnswer::Misaligned => refusals::bad_start(im, starts, 3),
+        WalkAnswer::NotCode => refusals::bad_start(im, starts),
+        WalkAnswer::Misaligned => refusals::bad_start(im, starts),
         WalkAnswer::MapTooSmall => refusals::small_map(),
         WalkAnswer::Done => show_all(data, im, starts, map, w, o, b"ok"),
         WalkAnswer::StackFull => show_all(data, im, starts, map, w, o, b"answer 5"),
@@ -123,15 +123,13 @@ fn show_all(
 )
     requires { ⌜ sound (now im) (length (now «data»)) ≡ true ⌝ }
 {
-    let mut out = rooms::out();
-    let at = counts::show(&mut out, im, starts.len() as u64, map, w, o.lines);
-    let at = sections::show(&mut out, at, im, map, o.lines);
-    say::flush(&out, at);
+    counts::show(im, starts.len() as u64, map, w, o.lines);
+    sections::show(im, map, o.lines);
     if o.report != 0 {
         if !save::report(im, data, map, o.report) {
-            say::last(b"report not written");
+            say::line(b"report not written");
             return;
         }
     }
-    say::last(last);
+    say::line(last);
 }

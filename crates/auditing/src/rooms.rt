@@ -35,9 +35,3 @@ pub(crate) fn report() -> [u8; 262666]
 {
     [0; 262666]
 }
-
-pub(crate) fn out() -> [u8; 65536]
-    ensures { λ r. ⌜ 65536 ≡ length r ⌝ }
-{
-    [0; 65536]
-}

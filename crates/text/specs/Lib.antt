@@ -1,2 +1,0 @@
--- Text in a lent buffer. Read Texts.
-pub mod Texts
