@@ -1,0 +1,14 @@
+// The audit of image files of up to a MiB (`audit_large` is the same with more room): it fits in the usual stack of 8 MiB.
+ghost use mathlib.Core.Path.{_≡_};
+ghost use lib.ListN.{length};
+
+fn room() -> [u8; 1048576]
+    ensures { λ r. ⌜ 1048576 ≡ length r ⌝ }
+{
+    [0; 1048576]
+}
+
+fn main() {
+    let mut file = room();
+    auditing::run(&mut file);
+}

@@ -1,0 +1,12 @@
+-- `auditing::rooms::image` meets its contract. Assumes nothing.
+use mathlib.Core.Path.{sym}
+use Prim.Native.Nat.{ℕ}
+use lib.ListN.{length-replicate}
+use Rattle.auditing.proofs.rooms.image.Statement.{statement}
+use Rattle.auditing.proofs.rooms.image.Tie as tie
+
+returns : tie.Need-returns
+returns c = sym (length-replicate {0} {A = ℕ} 66000 0)
+
+pub image-spec : {M : Type 1} → statement M
+image-spec = tie.close (tie.spec returns)

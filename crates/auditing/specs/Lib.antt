@@ -1,0 +1,2 @@
+-- What the audit seeks in a map.
+pub mod Sought

@@ -1,0 +1,2 @@
+-- Broken rules by name. Read Faults.
+pub mod Faults

@@ -1,0 +1,3 @@
+-- What holds of image files.
+pub mod Copying
+pub mod Judging
