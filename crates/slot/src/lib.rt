@@ -12,6 +12,7 @@ ghost use Rattle.slot.specs.Fits.{Fits};
 use places::SectionAddress;
 use record::compare_at;
 use record::held_at;
+use record::is_unset_at;
 use record::put_compare;
 use record::put_ends;
 use record::put_register;
@@ -36,8 +37,8 @@ pub struct AddressNumbers {
     pub address: u32,
 }
 
-// The state from a number on. Both loops fill one local: a state handed on by value is a copy. A register whose
-// first word is 0 is as in a new state.
+// The state from a number on. Both loops fill one local: a state handed on by value is a copy. A record that says
+// nothing is as in a new state.
 fn state_at(words: &[u32], at: usize) -> VM
     requires { ⌜ at + stateSize ≤ length (now words) ⌝ }
     ensures { λ r. ⌜ r ≡ stateAt (now (words .entry)) at ⌝ }
@@ -57,8 +58,13 @@ fn state_at(words: &[u32], at: usize) -> VM
     }
     let mut j: usize = 0;
     while j < 8 {
-        s.cr[j] = compare_at(words, at + 256 + j * 8);
+        let from = at + 256 + j * 8;
+        let k = j;
         j = j + 1;
+        if is_unset_at(words, from) {
+            continue;
+        }
+        s.cr[k] = compare_at(words, from);
     }
     s.lr = lr;
     s.ctr = ctr;

@@ -3,8 +3,9 @@
 ghost use mathlib.Core.Path.{_≡_};
 ghost use mathlib.Core.List.{[], _∷_};
 ghost use Prim.Native.Nat.{_+_, _<_, _≤_};
-ghost use mathlib.Core.Bool.{true};
-ghost use lib.ListN.{length, replicate};
+ghost use mathlib.Core.Bool.{true, _&&_};
+ghost use lib.Dec.{eqb};
+ghost use lib.ListN.{length, getD, replicate};
 ghost use Rattle.vm.specs.Registers.{blank, noCr};
 ghost use Rattle.slot.specs.Put.{put};
 ghost use Rattle.slot.specs.Values.{markOf};
@@ -150,6 +151,16 @@ fn put_compared(words: &mut [u32], at: usize, c: Cr)
     let r = numbers_of(right);
     store4(words, at, l.tag + 16 * bit_of(c.signed), l.a, l.b, l.c);
     store4(words, at + 4, r.tag, r.a, r.b, r.c);
+}
+
+// Whether nothing was compared, by the words.
+pub fn is_unset_at(words: &[u32], at: usize) -> bool
+    requires { ⌜ at + 8 ≤ length (now words) ⌝ }
+    ensures { λ r. ⌜ r ≡ (eqb (getD (now (words .entry)) at 0) 0 && eqb (getD (now (words .entry)) (at + 4) 0) 0) ⌝ }
+{
+    let head = words[at];
+    let right = words[at + 4];
+    (head == 0) & (right == 0)
 }
 
 pub fn compare_at(words: &[u32], at: usize) -> Cr
