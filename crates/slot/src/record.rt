@@ -34,22 +34,26 @@ fn store4(words: &mut [u32], at: usize, w: u32, x: u32, y: u32, z: u32)
     words[at + 3] = z;
 }
 
-// Nothing is known of the register: the common case.
+// Nothing is known of the register: the common case. The places first, since that order compiles to fewer instructions.
 fn is_blank(g: Gpr) -> bool
     ensures { λ r. ⌜ (r ≡ true → g ≡ blank) ⌝ }
 {
-    let value = g.value;
     let hi = g.hi_addr;
-    let lo = g.lo_addr;
-    match value {
-        GprValue::Unknown => match hi {
-            MaybeAddress::Nowhere => match lo {
-                MaybeAddress::Nowhere => true,
+    match hi {
+        MaybeAddress::Nowhere => {
+            let lo = g.lo_addr;
+            match lo {
+                MaybeAddress::Nowhere => {
+                    let value = g.value;
+                    match value {
+                        GprValue::Unknown => true,
+                        _ => false,
+                    }
+                }
                 MaybeAddress::At(_) => false,
-            },
-            MaybeAddress::At(_) => false,
-        },
-        _ => false,
+            }
+        }
+        MaybeAddress::At(_) => false,
     }
 }
 

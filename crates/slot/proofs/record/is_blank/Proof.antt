@@ -24,7 +24,7 @@ enum-told-5 : tie.Need-enum-told-5
 enum-told-5 c = search needs
 
 returns : tie.Need-returns
-returns c = λ e. blank-of (c .before .before .before .before .before .before .args .g) (c .before .before .before .before .enum-told .given .1) (c .before .before .enum-told2 .given .1) (c .enum-told3 .given .1)
+returns c = λ e. blank-of (c .before .before .before .before .before .before .args .g) (c .enum-told3 .given .1) (c .before .before .before .before .enum-told .given .1) (c .before .before .enum-told2 .given .1)
 
 returns-2 : tie.Need-returns-2
 returns-2 c = λ e. absurd (let z : _≡_ {A = ℕ} 0 1 = cc in let n : ⊥ = omega arith in n)
