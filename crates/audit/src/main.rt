@@ -1,4 +1,4 @@
-// The audit of image files of up to a MiB (`audit_large` is the same with more room): it fits in the usual stack of 8 MiB.
+// The audit of image files of up to a MiB: it fits in the usual stack of 8 MiB.
 ghost use mathlib.Core.Path.{_≡_};
 ghost use lib.ListN.{length};
 
