@@ -72,6 +72,13 @@ void channel_event(u32 c) {
     BANKS[c].control = ACKNOWLEDGE;
 }
 
+/* Called by nobody here: no start leads to it. */
+u32 driver_selftest(void) {
+    u32 n = 0;
+    for (struct buffer *b = free_list; b; b = b->next) n++;
+    return n == buffers_free;
+}
+
 void driver_interrupt(u32 pending) {
     for (u32 c = 0; c < CHANNELS; c++)
         if (pending >> c & 1) channel_event(c);

@@ -1,4 +1,5 @@
-// The audit of image files of up to a MiB: it fits in the usual stack of 8 MiB.
+// The audit of image files of up to a MiB, which fits in the usual stack of 8 MiB. For larger files ./audit proves and builds the same
+// with 16777216 for 1048576, and runs it with a larger stack.
 ghost use mathlib.Core.Path.{_≡_};
 ghost use lib.ListN.{length};
 

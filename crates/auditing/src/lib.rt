@@ -11,16 +11,15 @@ use libc::STDIN_FILENO;
 use turns::WalkAnswer;
 use turns::Walked;
 
-mod counts;
 mod options;
 mod refusals;
 mod rooms;
-mod runs;
 mod save;
-mod say;
-mod sections;
 
 use options::Options;
+use shown::counts;
+use shown::say;
+use shown::sections;
 
 // The whole audit, in a buffer that the file must fit in. The last line written says how it ended.
 pub fn run(file: &mut [u8]) {

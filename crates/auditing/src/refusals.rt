@@ -2,14 +2,14 @@
 ghost use mathlib.Core.Path.{_≡_};
 ghost use mathlib.Core.Bool.{true};
 ghost use Rattle.image.specs.Rules.{tablesSound};
-use crate::say::line;
-use crate::say::number;
-use crate::say::text;
-use crate::say::word;
 use faults::Rule;
 use image_file::Wrong;
 use lookups::CodePlace;
 use places::SectionAddress;
+use shown::say::line;
+use shown::say::number;
+use shown::say::text;
+use shown::say::word;
 
 // The file is no image file, or has more than there is room for: what is wrong, at which byte, and the end that its counts ask for.
 pub(crate) fn no_file(w: Wrong, at: usize, end: usize) {

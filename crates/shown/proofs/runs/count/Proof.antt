@@ -1,8 +1,8 @@
--- `auditing::runs::count` meets its contract. Assumes nothing.
+-- `shown::runs::count` meets its contract. Assumes nothing.
 use Prim.Native.Nat.{_-_, _≤_}
 use borrow.Author.Needs.{needs}
-use Rattle.auditing.proofs.runs.count.Statement.{statement}
-use Rattle.auditing.proofs.runs.count.Tie as tie
+use Rattle.shown.proofs.runs.count.Statement.{statement}
+use Rattle.shown.proofs.runs.count.Tie as tie
 
 abbrev Inv-loop : tie.InvT-loop
 Inv-loop map base words n₀ j₀ n j = (n ≤ j) × (j ≤ words)

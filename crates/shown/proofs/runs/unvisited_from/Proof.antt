@@ -1,14 +1,14 @@
--- `auditing::runs::unvisited_from` meets its contract. Assumes nothing.
+-- `shown::runs::unvisited_from` meets its contract. Assumes nothing.
 use Rattle.search.proofs.Answers.{passed, failed}
-use Rattle.auditing.proofs.Seeking.{none-passed, one-more-passed}
+use Rattle.shown.proofs.Seeking.{none-passed, one-more-passed}
 use Rattle.visited.specs.Bits.{visitedAt}
 use Prim.Native.Nat.{ℕ, _+_, _-_, _≤_, _<_}
 use mathlib.Core.Bool.{true}
 use mathlib.Core.Path.{_≡_}
 use native.Mathlib.Omega.{arith}
 use borrow.Author.Needs.{needs}
-use Rattle.auditing.proofs.runs.unvisited_from.Statement.{statement}
-use Rattle.auditing.proofs.runs.unvisited_from.Tie as tie
+use Rattle.shown.proofs.runs.unvisited_from.Statement.{statement}
+use Rattle.shown.proofs.runs.unvisited_from.Tie as tie
 
 abbrev Inv-loop : tie.InvT-loop
 Inv-loop map base words j k₀ k = (j ≤ k) × (k ≤ words) × ((i : ℕ) → j ≤ i → i < k → visitedAt map (base + i) ≡ true)

@@ -14,7 +14,7 @@ use image::table::section;
 use image::table::section_count;
 
 // Every section in order.
-pub(crate) fn show(im: &[u32], map: &[u32], lines: bool)
+pub fn show(im: &[u32], map: &[u32], lines: bool)
     requires { ⌜ tablesSound (now im) ≡ true ⌝ }
 {
     let n = section_count(im);

@@ -1,5 +1,5 @@
--- `auditing::sections::show` meets its contract. Assumes nothing.
-use Rattle.auditing.proofs.Tables.{head-inside, section-inside, words-inside}
+-- `shown::sections::show` meets its contract. Assumes nothing.
+use Rattle.shown.proofs.Tables.{head-inside, section-inside, words-inside}
 use Rattle.image.proofs.CodeWords.{words-none, words-more}
 use Rattle.image.specs.Rules.{wordsOf, wordsBefore}
 use Rattle.image.specs.Layout.{sections, sectionAt}
@@ -7,8 +7,8 @@ use Prim.Native.Nat.{_<_, _-_, _≤_}
 use mathlib.Core.Path.{_≡_, sym, ap, _∙_}
 use native.Mathlib.Omega.{arith}
 use borrow.Author.Needs.{needs}
-use Rattle.auditing.proofs.sections.show.Statement.{statement}
-use Rattle.auditing.proofs.sections.show.Tie as tie
+use Rattle.shown.proofs.sections.show.Statement.{statement}
+use Rattle.shown.proofs.sections.show.Tie as tie
 
 abbrev Inv-loop : tie.InvT-loop
 Inv-loop im map lines n base₀ i₀ base i = (i ≤ sections im) × (base ≡ wordsBefore im i)

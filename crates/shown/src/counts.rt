@@ -5,7 +5,7 @@ use crate::say::line;
 use crate::say::number;
 use turns::Walked;
 
-pub(crate) fn show(im: &[u32], starts: u64, map: &[u32], w: Walked, lines: bool)
+pub fn show(im: &[u32], starts: u64, map: &[u32], w: Walked, lines: bool)
     requires { ⌜ Laid (now im) ⌝ }
 {
     show_kind(im[0], lines);

@@ -1,7 +1,7 @@
 // Runs of visited words, found in the map: words are counted from a section's first, which has the number `base`.
 ghost use mathlib.Core.Bool.{true, false};
 ghost use Prim.Native.Nat.{_+_, _<_, _≤_, _^_};
-ghost use Rattle.auditing.specs.Sought.{Sought};
+ghost use Rattle.shown.specs.Sought.{Sought};
 use lookups::WordNumber;
 
 // The first visited word from j on, or how many words there are.

@@ -1,8 +1,8 @@
--- `auditing::sections::show_runs` meets its contract. Assumes nothing.
+-- `shown::sections::show_runs` meets its contract. Assumes nothing.
 use Prim.Native.Nat.{_-_, _≤_}
 use borrow.Author.Needs.{needs}
-use Rattle.auditing.proofs.sections.show_runs.Statement.{statement}
-use Rattle.auditing.proofs.sections.show_runs.Tie as tie
+use Rattle.shown.proofs.sections.show_runs.Statement.{statement}
+use Rattle.shown.proofs.sections.show_runs.Tie as tie
 
 abbrev Inv-loop : tie.InvT-loop
 Inv-loop index address map base words lines j₀ j = j ≤ words
