@@ -5,15 +5,15 @@
  * Each function is proved to do what crates/gelruptai/specs says, for every content and every length of what is lent. What the
  * proofs can't see is what a C pointer owes:
  *
- * - A buffer is a pointer and how many elements it has (not bytes). The pointer is not null, also where the length is 0, is aligned for
- *   its type, and the elements are there. A parameter `x[9]` points to 9 elements, and no length is handed over.
+ * - A buffer is a pointer and how many elements it has (elements, not bytes; less than 2^63 bytes). The pointer is not null, also where
+ *   the length is 0, is aligned for its type, and the elements are there. `x[9]` is a pointer to 9 elements, without a length.
  * - A buffer without `const` is written, and overlaps no other buffer of the same call. `const` buffers may overlap each other.
- * - Buffers to be written may hold anything before, but they must have been initialised.
- * - Nobody else writes to a lent buffer during a call.
+ * - What a buffer holds before may be anything, but it has been initialised (calloc will do).
+ * - Nobody else writes to a lent buffer during a call, nor reads one that is not `const`.
  *
- * There is no heap, no file, no global and no lock: any number of threads may call at once with their own buffers, and a call keeps
- * nothing. A call needs less than 64 KiB of stack, and ends. Image words, numbers of places and all others are in the machine's
- * own byte order; docs/FORMATS.md has the image's words. */
+ * Every call ends and returns. There is no heap, no file, no global and no lock: a call keeps nothing, needs no thread, and any number
+ * of threads may call at once with their own buffers. It calls memcpy and memset and nothing else. It takes some 20 KiB of stack, as
+ * measured, not as proved. Numbers are in the machine's own byte order; docs/FORMATS.md says what the image's words are. */
 #ifndef GELRUPTAI_H
 #define GELRUPTAI_H
 
@@ -116,7 +116,8 @@ uint32_t gelruptai_table(const uint32_t *image, size_t image_length, const uint8
 uint32_t gelruptai_write_report(const uint32_t *image, size_t image_length, const uint8_t *data, size_t data_length,
                                 const uint32_t *map, size_t map_length, uint8_t *out, size_t out_length, size_t *written);
 
-/* A report read into a map: bits 0 to W - 1 are the report's, bits from W up stay. Answers 0; or 1, 4, 13, which leave the map as it was. */
+/* A report read into a map: bits 0 to W - 1 become the report's, bits from W up stay. Answers 0; or 1, 4 or 13, which leave the map as it
+ * was. */
 uint32_t gelruptai_read_report(const uint32_t *image, size_t image_length, const uint8_t *data, size_t data_length,
                                const uint8_t *report, size_t report_length, uint32_t *map, size_t map_length);
 

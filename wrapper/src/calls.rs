@@ -47,7 +47,14 @@ pub fn walk(
     (answer, counts)
 }
 
-pub fn table(words: &[u32], data: &[u8], at: Place, size: u32, given: &[u32; 9], entries: &mut [u64]) -> (u32, [u64; 2]) {
+pub fn table(
+    words: &[u32],
+    data: &[u8],
+    at: Place,
+    size: u32,
+    given: &[u32; 9],
+    entries: &mut [u64],
+) -> (u32, [u64; 2]) {
     let mut counts = [0; 2];
     let answer = unsafe {
         ffi::gelruptai_table(

@@ -110,11 +110,15 @@ impl Given {
     fn of(w: [u32; 9]) -> Given {
         let number = |k: usize| (w[k] == 1).then(|| w[k + 1]);
         let place = |k: usize| Place { section: w[k], address: w[k + 1] };
-        Given { r2: number(0), r13: number(2), function: Function { start: place(4), end: (w[6] == 1).then(|| place(7)) } }
+        Given {
+            r2: number(0),
+            r13: number(2),
+            function: Function { start: place(4), end: (w[6] == 1).then(|| place(7)) },
+        }
     }
 }
 
-/// A walk: its starts, what it is given, and how many states may wait (each takes 1,324 bytes while it runs).
+/// A walk: its starts, what it is given, and how many states may wait (each takes some 1.3 KB while it runs).
 #[derive(Clone, Debug)]
 pub struct Walk {
     pub starts: Vec<Place>,
@@ -267,7 +271,11 @@ numbered! {
 
 impl Refusal {
     fn of(n: u32) -> Result<(), Refusal> {
-        if n == 0 { Ok(()) } else { Err(Refusal::numbered(n)) }
+        if n == 0 {
+            Ok(())
+        } else {
+            Err(Refusal::numbered(n))
+        }
     }
 }
 

@@ -168,7 +168,9 @@ fn code(words: &[u32]) -> (Vec<u32>, Vec<u8>) {
 fn r2_and_r13_are_what_the_walk_is_given() {
     let blr = 0x4E80_0020;
     // mtctr r2 or r13, bctr, blr, blr
-    for (mtctr, two, reached) in [(0x7C49_03A6, true, 3), (0x7DA9_03A6, false, 3), (0x7C49_03A6, false, 2), (0x7DA9_03A6, true, 2)] {
+    for (mtctr, two, reached) in
+        [(0x7C49_03A6, true, 3), (0x7DA9_03A6, false, 3), (0x7C49_03A6, false, 2), (0x7DA9_03A6, true, 2)]
+    {
         let (words, data) = code(&[mtctr, 0x4E80_0420, blr, blr]);
         let image = Image { words: &words, data: &data };
         let number = |there: bool| there.then_some(0x100C);
@@ -234,6 +236,36 @@ fn a_thread_with_a_small_stack_is_enough() {
     });
     let (stepped, _) = walk.expect("a thread").join().expect("an answer");
     assert_eq!(stepped, said("steps"));
+}
+
+/// As much code as there may be, of any words, from a start in every 64: its bits are read back from its report.
+#[test]
+fn the_largest_image_is_walked() {
+    let mut seed = 1u32;
+    let mut next = || {
+        seed = seed.wrapping_mul(1_664_525).wrapping_add(1_013_904_223);
+        seed
+    };
+    let most = 262_144;
+    let mut all: Vec<u32> = (0..most).map(|_| next()).collect();
+    let (words, data) = code(&all);
+    let image = Image { words: &words, data: &data };
+    assert_eq!((image.broken_rule(), image.code_words()), (None, most));
+    let starts: Vec<Place> = (0..most as u32 / 64).map(|k| Place { section: 0, address: 0x1000 + 256 * k }).collect();
+    let first: Vec<usize> = (0..most / 64).map(|k| 64 * k).collect();
+    let walk = Walk { starts, given: Given::default(), states: 8192 };
+    let (walked, map) = walk.run(image).expect("a walk");
+    assert_eq!((walked.answer, walked.waiting), (Answer::Done, 0));
+    assert!(first.iter().all(|&n| visited(&map, n)));
+    let ones: u32 = map.iter().map(|w| w.count_ones()).sum();
+    assert!(u64::from(ones) <= walked.stepped && walked.begun <= most as u64);
+    let mut read = image.empty_map();
+    image.read_report(&image.write_report(&map).expect("a report"), &mut read).expect("its own report");
+    assert_eq!(read, map);
+
+    all.push(0);
+    let (words, data) = code(&all);
+    assert_eq!(Image { words: &words, data: &data }.broken_rule(), Some(Rule::CodeWords));
 }
 
 /// Files cut and changed everywhere: an answer each time, whatever it is.
