@@ -3,6 +3,9 @@
 //! Every list and every number is allowed everywhere: what doesn't fit is refused, with document 01's number. The unsafe code is in
 //! `calls`, which hands slices over as pointers and lengths; Rust's borrows are what the library asks of them.
 
+#![deny(unsafe_code)]
+
+#[allow(unsafe_code)]
 mod calls;
 mod ffi;
 
