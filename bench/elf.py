@@ -110,6 +110,21 @@ def code_words(path):
     sections = struct.iter_unpack('>6I', open(path, 'rb').read()[4 * 10:4 * (10 + 6 * words[2])])
     return sum(size // 4 for _, size, kind, *_ in sections if kind == CODE)
 
+def image_file(image, given, starts, data):
+    "an image file's bytes (docs/FORMATS.md): the image's words, the nine words that a walk is given, starts, data"
+    words = [0x47454c52, 1, len(image), len(starts), len(data), *given, *image, *flat(starts)]
+    return struct.pack(f'>{len(words)}I', *words) + bytes(data)
+
+def as_image_file(path):
+    "a case as an image file"
+    held = open(path, 'rb').read()
+    words = struct.unpack(f'>{len(held) // 4}I', held)
+    m = words[3]
+    d = words[4 + m]
+    walk = words[5 + m + (d + 3) // 4 + 2:]
+    starts = [walk[13 + 2 * i:15 + 2 * i] for i in range(walk[12])]
+    return image_file(words[4:4 + m], walk[3:12], starts, held[4 * (5 + m):4 * (5 + m) + d])
+
 def write(path, turns, records):
     "how often the walk is to be done, then the records"
     words = [turns] + flat([kind, len(payload), *payload] for kind, payload in records)

@@ -33,6 +33,10 @@ use answer::*;
 use image::Image;
 use rng::Rng;
 
+/// The programs that answer cases, each with the first and the last of its kinds.
+const PROGRAMS: [(&str, u32, u32); 3] =
+    [("replay", IMAGE, TABLE), ("replay_scripts", SCRIPT, SCRIPT), ("replay_upper", WALK, READ)];
+
 /// From this many cases on, every class of classes.txt must be reached; those marked ~ from four times as many on.
 const ENOUGH: u64 = 100_000;
 
@@ -40,8 +44,8 @@ const USAGE: &str = "\
 oracle make SEED COUNT CASES ANSWERS    cases from a seed, with the oracle's answers; counts of classes go to stderr
 oracle sample SEED COUNT CASES ANSWERS  out of COUNT cases those that reach a class first, without the largest
 oracle answer CASES ANSWERS             answers to an existing file of cases
-oracle split CASES ANSWERS LOWER UPPER  what replay answers (kinds 1 to 8) and what replay_upper does (1 and 9 to 12):
-                                        LOWER.cases, LOWER.answers, UPPER.cases, UPPER.answers
+oracle split CASES ANSWERS FOLDER       what replay answers (kinds 1 to 8), replay_scripts (1 and 9) and replay_upper (1 and 10 to
+                                        12): FOLDER/replay.cases, FOLDER/replay.answers, and so on
 oracle show CASES N                     case N (from 0), readable, with the oracle's answer
 oracle planted CASES ANSWERS            (built with the feature planted) each wrong version against the right answers
 oracle bench-step WORDS                 steps words, as often as the first says; bench-decoded-step decodes each time
@@ -96,7 +100,7 @@ fn main() {
             let text: String = records.iter().map(|r| line(&answer(&mut current, r))).collect();
             write(answers, text.as_bytes());
         }
-        ["split", cases, answers, lower, upper] => split(cases, answers, lower, upper),
+        ["split", cases, answers, folder] => split(cases, answers, folder),
         ["show", cases, n] => show::show(&read_cases(cases), number(n) as usize),
         ["sample", seed, count, cases, answers] => sample(number(seed), number(count), kinds, cases, answers),
         ["planted", cases, answers] => planted(cases, answers),
@@ -301,20 +305,20 @@ fn sample(seed: u64, count: u64, kinds: Kinds, cases: &str, answers: &str) {
     }
 }
 
-/// What each program answers, with the right answers: an image is both's.
-fn split(cases: &str, answers: &str, lower: &str, upper: &str) {
+/// What each program answers, with the right answers: an image is every program's.
+fn split(cases: &str, answers: &str, folder: &str) {
     let records = read_cases(cases);
     let text = fs::read_to_string(answers).unwrap_or_else(|e| fail(&format!("{answers}: {e}")));
-    let answers_to: [(&str, fn(u32) -> bool); 2] = [(lower, |k| k <= TABLE), (upper, |k| k == IMAGE || k > TABLE)];
-    for (name, has) in answers_to {
+    for (program, first, last) in PROGRAMS {
+        let has = |kind: u32| kind == IMAGE || (first..=last).contains(&kind);
         let (mut bytes, mut right) = (Vec::new(), String::new());
         for (record, answer) in records.iter().zip(text.lines()).filter(|(r, _)| has(r.kind)) {
             put_record(&mut bytes, record);
             right.push_str(answer);
             right.push('\n');
         }
-        write(&format!("{name}.cases"), &bytes);
-        write(&format!("{name}.answers"), right.as_bytes());
+        write(&format!("{folder}/{program}.cases"), &bytes);
+        write(&format!("{folder}/{program}.answers"), right.as_bytes());
     }
 }
 

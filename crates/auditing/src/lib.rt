@@ -15,6 +15,7 @@ mod options;
 mod refusals;
 mod rooms;
 mod save;
+mod which;
 
 use options::Options;
 use shown::counts;
@@ -66,12 +67,69 @@ fn judge(data: &[u8], im: &[u32], starts: &[u64], h: Head, o: Options) {
 
 fn judge_image(data: &[u8], im: &[u32], starts: &[u64], h: Head, o: Options) {
     match image::check_image(im, data) {
-        Judged::Broken => refusals::broken_image(faults::broken_rule(im, data.len())),
+        Judged::Broken => refusals::broken_image(
+            faults::broken_rule(im, data.len()),
+            im,
+            data.len(),
+        ),
         Judged::Sound => walk_image(data, im, starts, h, o),
     }
 }
 
+// So few starts seldom leave many states waiting: they are walked in a small room first, since the large one takes longer to
+// clear than a small program takes to walk.
+const FEW_STARTS: usize = 256;
+
 fn walk_image(data: &[u8], im: &[u32], starts: &[u64], h: Head, o: Options)
+    requires { ⌜ sound (now im) (length (now «data»)) ≡ true ⌝ }
+{
+    if starts.len() <= FEW_STARTS {
+        if walk_few(data, im, starts, h, o) {
+            return;
+        }
+    }
+    walk_many(data, im, starts, h, o);
+}
+
+// Whether the small room was enough. If not, nothing was written.
+fn walk_few(data: &[u8], im: &[u32], starts: &[u64], h: Head, o: Options) -> bool
+    requires { ⌜ sound (now im) (length (now «data»)) ≡ true ⌝ }
+{
+    let two = h.two;
+    let thirteen = h.thirteen;
+    let from = h.from;
+    let upto = h.upto;
+    let mut map = rooms::map();
+    let mut stack = rooms::small_stack();
+    let mut entries = [0u64; 1024];
+    let w = walk::walk(
+        im,
+        data,
+        starts,
+        two,
+        thirteen,
+        from,
+        upto,
+        &mut map,
+        &mut stack,
+        &mut entries,
+    );
+    if is_full(w) {
+        return false;
+    }
+    show(data, im, starts, &map, w, o);
+    true
+}
+
+fn is_full(w: Walked) -> bool {
+    let answer = w.answer;
+    match answer {
+        WalkAnswer::StackFull => true,
+        _ => false,
+    }
+}
+
+fn walk_many(data: &[u8], im: &[u32], starts: &[u64], h: Head, o: Options)
     requires { ⌜ sound (now im) (length (now «data»)) ≡ true ⌝ }
 {
     let two = h.two;
@@ -102,7 +160,11 @@ fn show(data: &[u8], im: &[u32], starts: &[u64], map: &[u32], w: Walked, o: Opti
 {
     let answer = w.answer;
     match answer {
-        WalkAnswer::BrokenImage => refusals::broken_image(faults::broken_rule(im, data.len())),
+        WalkAnswer::BrokenImage => refusals::broken_image(
+            faults::broken_rule(im, data.len()),
+            im,
+            data.len(),
+        ),
         WalkAnswer::NotCode => refusals::bad_start(im, starts),
         WalkAnswer::Misaligned => refusals::bad_start(im, starts),
         WalkAnswer::MapTooSmall => refusals::small_map(),

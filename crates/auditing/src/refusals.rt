@@ -2,6 +2,7 @@
 ghost use mathlib.Core.Path.{_≡_};
 ghost use mathlib.Core.Bool.{true};
 ghost use Rattle.image.specs.Rules.{tablesSound};
+use crate::which;
 use faults::Rule;
 use image_file::Wrong;
 use lookups::CodePlace;
@@ -48,9 +49,10 @@ fn tell_wrong(w: Wrong, end: u64) {
 }
 
 // Answer 1.
-pub(crate) fn broken_image(r: Rule) {
+pub(crate) fn broken_image(r: Rule, im: &[u32], bytes: usize) {
     text(b"refused, 1: an image rule is broken: ");
     tell_rule(r);
+    which::tell(r, im, bytes);
     line(b"\nanswer 1");
 }
 

@@ -22,6 +22,13 @@ pub(crate) fn map() -> [u32; 8192]
     [0; 8192]
 }
 
+// 512 waiting states.
+pub(crate) fn small_stack() -> [u32; 169474]
+    ensures { λ r. ⌜ 169474 ≡ length r ⌝ }
+{
+    [0; 169474]
+}
+
 // 4,096 waiting states, each of 331 words, and two.
 pub(crate) fn stack() -> [u32; 1355778]
     ensures { λ r. ⌜ 1355778 ≡ length r ⌝ }

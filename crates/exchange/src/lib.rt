@@ -6,4 +6,5 @@ pub mod print;
 pub mod read;
 pub mod results;
 pub mod rooms;
+pub mod stacks;
 pub mod states;

@@ -123,7 +123,7 @@ pub fn push(
                 count: count,
             },
             CodePlace::Fine => {
-                let pushed = stack::push(stack, count, p, s, sorted);
+                let pushed = stack::push_state(stack, count, p, s, sorted);
                 let n = pushed.count;
                 if pushed.taken {
                     return Pushing {

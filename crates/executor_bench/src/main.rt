@@ -43,7 +43,7 @@ fn fill(words: &mut [u32], s: VM) -> usize
     let mut n: usize = 0;
     let mut i: usize = 0;
     while i < 3000 {
-        let r = stack::push(words, n, place(i), s, true);
+        let r = stack::push_state(words, n, place(i), s, true);
         n = r.count;
         i = i + 1;
     }

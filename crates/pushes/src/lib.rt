@@ -1,5 +1,5 @@
 // What a word asks when it leaves a block: places are pushed in order, each with its own state; a table is read, then its entries pushed.
-// Requires a sound image, and words and a count that are a stack; our own crates alone call these.
+// Requires a sound image, words and a count that are a stack, and cells that hold the state; our own crates alone call these.
 pub mod tables;
 pub mod targets;
 
@@ -7,9 +7,12 @@ ghost use mathlib.Core.Path.{_≡_};
 ghost use mathlib.Core.Bool.{true};
 ghost use lib.ListN.{length};
 ghost use Rattle.image.specs.Rules.{tablesSound, dataInside};
+ghost use Rattle.cells.specs.Cells.{stateOf, Cells};
+ghost use Rattle.clones.specs.Clones.{madeOf};
 ghost use Rattle.stack.specs.Stack.{Stack};
 ghost use Rattle.turns.specs.Moves.{tableRoom};
 ghost use Rattle.pushes.specs.Takes.{none, PushedAt, TakenTarget, TakenWays};
+use clones::Made;
 use places::MaybeAddress;
 use places::RelocationTarget;
 use places::SectionAddress;
@@ -20,10 +23,6 @@ use targets::is_word;
 use targets::stays_in;
 use vm::BranchTarget;
 use vm::GprValue;
-use vm::VM;
-use vm::state::clone_for_link;
-use vm::state::clone_for_return;
-use vm::state::set_comparison_result;
 
 // What pushing leaves: how many states wait, whether a push was refused (5), tables read and not read.
 pub struct Taken {
@@ -44,13 +43,20 @@ fn nothing(count: usize) -> Taken
     }
 }
 
-// One place with a state: pushed if it is an aligned code word, sorted.
-pub fn push_at(im: &[u32], stack: &mut [u32], count: usize, q: SectionAddress, s: VM) -> Taken
-    requires { ⌜ (tablesSound (now im) ≡ true) × Stack (now stack) count ⌝ }
-    ensures { λ r. ⌜ PushedAt (now (im .entry)) (now (stack .entry)) count q s (now (stack .exit)) r ⌝ }
+// One place with what a way makes of the state: pushed if it is an aligned code word, sorted.
+pub fn push_at(
+    im: &[u32],
+    stack: &mut [u32],
+    count: usize,
+    q: SectionAddress,
+    cells: &[u32],
+    made: Made,
+) -> Taken
+    requires { ⌜ (tablesSound (now im) ≡ true) × Stack (now stack) count × Cells (now cells) (stateOf (now cells)) ⌝ }
+    ensures { λ r. ⌜ PushedAt (now (im .entry)) (now (stack .entry)) count q (madeOf made (stateOf (now (cells .entry)))) (now (stack .exit)) r ⌝ }
 {
     if is_word(im, q) {
-        let p = stack::push(stack, count, q, s, true);
+        let p = stack::push(stack, count, q, cells, made, true);
         return Taken {
             held: p.count,
             full: !p.taken,
@@ -71,18 +77,19 @@ fn take_target(
     count: usize,
     entries: &mut [u64],
     t: BranchTarget,
-    s: VM,
+    cells: &[u32],
+    made: Made,
 ) -> Taken
-    requires { ⌜ (tablesSound (now im) ≡ true) × (dataInside (now im) (length (now bytes)) ≡ true) ⌝ }
+    requires { ⌜ (tablesSound (now im) ≡ true) × (dataInside (now im) (length (now bytes)) ≡ true) × Cells (now cells) (stateOf (now cells)) ⌝ }
     requires { ⌜ Stack (now stack) count × (length (now entries) ≡ tableRoom) ⌝ }
-    ensures { λ r. ⌜ TakenTarget (now (im .entry)) (now (bytes .entry)) from upto (now (stack .entry)) count (now (entries .entry)) t s (now (stack .exit)) (now (entries .exit)) r ⌝ }
+    ensures { λ r. ⌜ TakenTarget (now (im .entry)) (now (bytes .entry)) from upto (now (stack .entry)) count (now (entries .entry)) t (madeOf made (stateOf (now (cells .entry)))) (now (stack .exit)) (now (entries .exit)) r ⌝ }
 {
     match t {
         BranchTarget::Unknown => nothing(count),
         BranchTarget::Return => nothing(count),
         BranchTarget::Address(a) => match a {
             RelocationTarget::External => nothing(count),
-            RelocationTarget::Address(q) => push_at(im, stack, count, q, s),
+            RelocationTarget::Address(q) => push_at(im, stack, count, q, cells, made),
         },
         BranchTarget::JumpTable { address, size } => {
             take_table(
@@ -95,7 +102,8 @@ fn take_target(
                 entries,
                 address,
                 size,
-                s,
+                cells,
+                made,
             )
         }
     }
@@ -112,17 +120,28 @@ fn take_jump(
     entries: &mut [u64],
     at: SectionAddress,
     t: BranchTarget,
-    s: VM,
+    cells: &[u32],
 ) -> Taken
-    requires { ⌜ (tablesSound (now im) ≡ true) × (dataInside (now im) (length (now bytes)) ≡ true) ⌝ }
+    requires { ⌜ (tablesSound (now im) ≡ true) × (dataInside (now im) (length (now bytes)) ≡ true) × Cells (now cells) (stateOf (now cells)) ⌝ }
     requires { ⌜ Stack (now stack) count × (length (now entries) ≡ tableRoom) ⌝ }
-    ensures { λ r. ⌜ TakenWays (now (im .entry)) (now (bytes .entry)) from upto (now (stack .entry)) count (now (entries .entry)) at (Leave.Jump t) s (now (stack .exit)) (now (entries .exit)) r ⌝ }
+    ensures { λ r. ⌜ TakenWays (now (im .entry)) (now (bytes .entry)) from upto (now (stack .entry)) count (now (entries .entry)) at (Leave.Jump t) (stateOf (now (cells .entry))) (now (stack .exit)) (now (entries .exit)) r ⌝ }
 {
     if stays_in(at, t) {
         return nothing(count);
     }
     if is_way(im, t) {
-        return take_target(im, bytes, from, upto, stack, count, entries, t, s);
+        return take_target(
+            im,
+            bytes,
+            from,
+            upto,
+            stack,
+            count,
+            entries,
+            t,
+            cells,
+            Made::Same,
+        );
     }
     nothing(count)
 }
@@ -138,13 +157,13 @@ fn take_call(
     entries: &mut [u64],
     at: SectionAddress,
     t: BranchTarget,
-    s: VM,
+    cells: &[u32],
 ) -> Taken
-    requires { ⌜ (tablesSound (now im) ≡ true) × (dataInside (now im) (length (now bytes)) ≡ true) ⌝ }
+    requires { ⌜ (tablesSound (now im) ≡ true) × (dataInside (now im) (length (now bytes)) ≡ true) × Cells (now cells) (stateOf (now cells)) ⌝ }
     requires { ⌜ Stack (now stack) count × (length (now entries) ≡ tableRoom) ⌝ }
-    ensures { λ r. ⌜ TakenWays (now (im .entry)) (now (bytes .entry)) from upto (now (stack .entry)) count (now (entries .entry)) at (Leave.Call t) s (now (stack .exit)) (now (entries .exit)) r ⌝ }
+    ensures { λ r. ⌜ TakenWays (now (im .entry)) (now (bytes .entry)) from upto (now (stack .entry)) count (now (entries .entry)) at (Leave.Call t) (stateOf (now (cells .entry))) (now (stack .exit)) (now (entries .exit)) r ⌝ }
 {
-    let first = push_at(im, stack, count, places::offset(at, 4), clone_for_return(s));
+    let first = push_at(im, stack, count, places::offset(at, 4), cells, Made::Return);
     if first.full {
         return first;
     }
@@ -158,7 +177,8 @@ fn take_call(
             first.held,
             entries,
             t,
-            clone_for_link(s),
+            cells,
+            Made::Link,
         );
     }
     first
@@ -178,18 +198,19 @@ fn take_fork(
     crf: u8,
     stays: GprValue,
     goes: GprValue,
-    s: VM,
+    cells: &[u32],
 ) -> Taken
-    requires { ⌜ (tablesSound (now im) ≡ true) × (dataInside (now im) (length (now bytes)) ≡ true) ⌝ }
+    requires { ⌜ (tablesSound (now im) ≡ true) × (dataInside (now im) (length (now bytes)) ≡ true) × Cells (now cells) (stateOf (now cells)) ⌝ }
     requires { ⌜ Stack (now stack) count × (length (now entries) ≡ tableRoom) ⌝ }
-    ensures { λ r. ⌜ TakenWays (now (im .entry)) (now (bytes .entry)) from upto (now (stack .entry)) count (now (entries .entry)) at (Leave.Fork t crf stays goes) s (now (stack .exit)) (now (entries .exit)) r ⌝ }
+    ensures { λ r. ⌜ TakenWays (now (im .entry)) (now (bytes .entry)) from upto (now (stack .entry)) count (now (entries .entry)) at (Leave.Fork t crf stays goes) (stateOf (now (cells .entry))) (now (stack .exit)) (now (entries .exit)) r ⌝ }
 {
     let first = push_at(
         im,
         stack,
         count,
         places::offset(at, 4),
-        set_comparison_result(s, stays, crf),
+        cells,
+        Made::Result { value: stays, crf },
     );
     if first.full {
         return first;
@@ -204,7 +225,8 @@ fn take_fork(
             first.held,
             entries,
             t,
-            set_comparison_result(s, goes, crf),
+            cells,
+            Made::Result { value: goes, crf },
         );
     }
     first
@@ -221,18 +243,29 @@ fn take_both(
     entries: &mut [u64],
     at: SectionAddress,
     t: BranchTarget,
-    s: VM,
+    cells: &[u32],
 ) -> Taken
-    requires { ⌜ (tablesSound (now im) ≡ true) × (dataInside (now im) (length (now bytes)) ≡ true) ⌝ }
+    requires { ⌜ (tablesSound (now im) ≡ true) × (dataInside (now im) (length (now bytes)) ≡ true) × Cells (now cells) (stateOf (now cells)) ⌝ }
     requires { ⌜ Stack (now stack) count × (length (now entries) ≡ tableRoom) ⌝ }
-    ensures { λ r. ⌜ TakenWays (now (im .entry)) (now (bytes .entry)) from upto (now (stack .entry)) count (now (entries .entry)) at (Leave.Both t) s (now (stack .exit)) (now (entries .exit)) r ⌝ }
+    ensures { λ r. ⌜ TakenWays (now (im .entry)) (now (bytes .entry)) from upto (now (stack .entry)) count (now (entries .entry)) at (Leave.Both t) (stateOf (now (cells .entry))) (now (stack .exit)) (now (entries .exit)) r ⌝ }
 {
-    let first = push_at(im, stack, count, places::offset(at, 4), s);
+    let first = push_at(im, stack, count, places::offset(at, 4), cells, Made::Same);
     if first.full {
         return first;
     }
     if is_way(im, t) {
-        return take_target(im, bytes, from, upto, stack, first.held, entries, t, s);
+        return take_target(
+            im,
+            bytes,
+            from,
+            upto,
+            stack,
+            first.held,
+            entries,
+            t,
+            cells,
+            Made::Same,
+        );
     }
     first
 }
@@ -248,17 +281,17 @@ pub fn take(
     entries: &mut [u64],
     at: SectionAddress,
     l: Leave,
-    s: VM,
+    cells: &[u32],
 ) -> Taken
-    requires { ⌜ (tablesSound (now im) ≡ true) × (dataInside (now im) (length (now bytes)) ≡ true) ⌝ }
+    requires { ⌜ (tablesSound (now im) ≡ true) × (dataInside (now im) (length (now bytes)) ≡ true) × Cells (now cells) (stateOf (now cells)) ⌝ }
     requires { ⌜ Stack (now stack) count × (length (now entries) ≡ tableRoom) ⌝ }
-    ensures { λ r. ⌜ TakenWays (now (im .entry)) (now (bytes .entry)) from upto (now (stack .entry)) count (now (entries .entry)) at l s (now (stack .exit)) (now (entries .exit)) r ⌝ }
+    ensures { λ r. ⌜ TakenWays (now (im .entry)) (now (bytes .entry)) from upto (now (stack .entry)) count (now (entries .entry)) at l (stateOf (now (cells .entry))) (now (stack .exit)) (now (entries .exit)) r ⌝ }
 {
     match l {
         Leave::Ended => nothing(count),
         Leave::Illegal => nothing(count),
-        Leave::Jump(t) => take_jump(im, bytes, from, upto, stack, count, entries, at, t, s),
-        Leave::Call(t) => take_call(im, bytes, from, upto, stack, count, entries, at, t, s),
+        Leave::Jump(t) => take_jump(im, bytes, from, upto, stack, count, entries, at, t, cells),
+        Leave::Call(t) => take_call(im, bytes, from, upto, stack, count, entries, at, t, cells),
         Leave::Fork {
             target,
             crf,
@@ -277,8 +310,8 @@ pub fn take(
             crf,
             stays,
             goes,
-            s,
+            cells,
         ),
-        Leave::Both(t) => take_both(im, bytes, from, upto, stack, count, entries, at, t, s),
+        Leave::Both(t) => take_both(im, bytes, from, upto, stack, count, entries, at, t, cells),
     }
 }

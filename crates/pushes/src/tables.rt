@@ -1,11 +1,13 @@
 // A jump table in a walk: it is read with the given function bounds, then its entries are pushed.
-// Requires a sound image, words and a count that are a stack, and an entry buffer of the walk's length.
+// Requires a sound image, words and a count that are a stack, and an entry buffer of the walk's length, and cells that hold the state.
 ghost use mathlib.Core.Path.{_≡_};
 ghost use mathlib.Core.Bool.{true};
 ghost use Prim.Native.Nat.{_≤_};
 ghost use lib.Dec.{eqb};
 ghost use lib.ListN.{length};
 ghost use Rattle.image.specs.Rules.{tablesSound, dataInside};
+ghost use Rattle.cells.specs.Cells.{stateOf, Cells};
+ghost use Rattle.clones.specs.Clones.{madeOf};
 ghost use Rattle.stack.specs.Stack.{Stack};
 ghost use Rattle.jump_tables.specs.Tables.{answerOf};
 ghost use Rattle.turns.specs.Histories.{one};
@@ -14,13 +16,13 @@ ghost use Rattle.pushes.specs.Takes.{PushedKeys, TakenTable};
 use crate::Taken;
 use crate::nothing;
 use crate::push_at;
+use clones::Made;
 use jump_tables::TableAnswer;
 use jump_tables::table_in;
 use places::MaybeAddress;
 use places::RelocationTarget;
 use places::SectionAddress;
 use vm::TableSize;
-use vm::VM;
 
 // The place that an entry of a table names.
 pub fn place_of(key: u64) -> SectionAddress
@@ -39,15 +41,16 @@ pub fn push_keys(
     count: usize,
     entries: &[u64],
     n: usize,
-    s: VM,
+    cells: &[u32],
+    made: Made,
 ) -> Taken
-    requires { ⌜ (tablesSound (now im) ≡ true) × Stack (now stack) count × (n ≤ length (now entries)) ⌝ }
-    ensures { λ r. ⌜ PushedKeys (now (im .entry)) (now (stack .entry)) count (now (entries .entry)) n s (now (stack .exit)) r ⌝ }
+    requires { ⌜ (tablesSound (now im) ≡ true) × Stack (now stack) count × (n ≤ length (now entries)) × Cells (now cells) (stateOf (now cells)) ⌝ }
+    ensures { λ r. ⌜ PushedKeys (now (im .entry)) (now (stack .entry)) count (now (entries .entry)) n (madeOf made (stateOf (now (cells .entry)))) (now (stack .exit)) r ⌝ }
 {
     let mut held = count;
     let mut j: usize = 0;
     while j < n {
-        let r = push_at(im, stack, held, place_of(entries[j]), s);
+        let r = push_at(im, stack, held, place_of(entries[j]), cells, made);
         if r.full {
             return r;
         }
@@ -92,11 +95,12 @@ pub fn take_table(
     entries: &mut [u64],
     t: RelocationTarget,
     size: TableSize,
-    s: VM,
+    cells: &[u32],
+    made: Made,
 ) -> Taken
-    requires { ⌜ (tablesSound (now im) ≡ true) × (dataInside (now im) (length (now bytes)) ≡ true) ⌝ }
+    requires { ⌜ (tablesSound (now im) ≡ true) × (dataInside (now im) (length (now bytes)) ≡ true) × Cells (now cells) (stateOf (now cells)) ⌝ }
     requires { ⌜ Stack (now stack) count × (length (now entries) ≡ tableRoom) ⌝ }
-    ensures { λ r. ⌜ TakenTable (now (im .entry)) (now (bytes .entry)) from upto (now (stack .entry)) count (now (entries .entry)) t size s (now (stack .exit)) (now (entries .exit)) r ⌝ }
+    ensures { λ r. ⌜ TakenTable (now (im .entry)) (now (bytes .entry)) from upto (now (stack .entry)) count (now (entries .entry)) t size (madeOf made (stateOf (now (cells .entry)))) (now (stack .exit)) (now (entries .exit)) r ⌝ }
 {
     match t {
         RelocationTarget::External => Taken {
@@ -107,7 +111,7 @@ pub fn take_table(
         },
         RelocationTarget::Address(p) => {
             let o = table_in(im, bytes, p, size_in(size), from, upto, entries);
-            let r = push_keys(im, stack, count, entries, o.count, s);
+            let r = push_keys(im, stack, count, entries, o.count, cells, made);
             let answer = o.answer;
             let read = read_one(answer);
             Taken {

@@ -1,9 +1,7 @@
-// Answers a file of cases of kinds 1 and 9 to 12 (docs/FORMATS.md) over the proved libraries: cases on standard input, a line
+// Answers a file of cases of kinds 1 and 10 to 12 (docs/FORMATS.md) over the proved libraries: cases on standard input, a line
 // of words for each on standard output. The oracle answers the same file; equal means equal byte for byte.
 mod reports;
 mod rooms;
-mod scripts;
-mod stacks;
 mod walks;
 
 use exchange::file;
@@ -17,7 +15,6 @@ const MOST_RECORDS: usize = 100000000;
 fn answer(kind: u32, p: &[u32], im: &[u32], data: &[u8], line: &mut [u32]) -> usize {
     match kind {
         1 => file::judged(im, data, line),
-        9 => scripts::script(p, im, data, line),
         10 => walks::walk(p, im, data, line),
         11 => reports::write(p, im, data, line),
         12 => reports::read(p, im, data, line),

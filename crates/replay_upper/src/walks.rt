@@ -2,11 +2,11 @@
 ghost use Prim.Native.Nat.{_≤_};
 ghost use lib.ListN.{length};
 use crate::rooms;
-use crate::stacks;
 use exchange::file::least;
 use exchange::print;
 use exchange::read;
 use exchange::read::plus;
+use exchange::stacks;
 use turns::WalkAnswer;
 use turns::Walked;
 use vm::MaybeBase;

@@ -1,2 +1,3 @@
--- The laws of a straight run.
+pub mod Told
+pub mod Carrying
 pub mod Running

@@ -1,3 +1,4 @@
--- Laws of seeking in a map, and of sound tables.
+-- Laws of counting and seeking in a map, and of sound tables.
+pub mod Counting
 pub mod Seeking
 pub mod Tables

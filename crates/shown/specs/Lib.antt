@@ -1,2 +1,3 @@
--- What the audit seeks in a map.
+-- What the audit seeks in a map, and what it counts.
+pub mod Counted
 pub mod Sought

@@ -1,5 +1,7 @@
 // What is counted of an image and of its walk.
+ghost use mathlib.Core.Path.{_≡_};
 ghost use Rattle.image.specs.Laid.{Laid};
+ghost use Rattle.shown.specs.Counted.{tenthsOf};
 use crate::say::count;
 use crate::say::line;
 use crate::say::number;
@@ -53,7 +55,9 @@ fn show_visited(part: u64, whole: u64, lines: bool) {
 }
 
 // Tenths of a percent of a part of at most 2^40.
-fn tenths(part: u64, whole: u64) -> u64 {
+fn tenths(part: u64, whole: u64) -> u64
+    ensures { λ r. ⌜ r ≡ tenthsOf part whole ⌝ }
+{
     if whole == 0 {
         return 0;
     }

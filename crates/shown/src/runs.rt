@@ -1,6 +1,8 @@
 // Runs of visited words, found in the map: words are counted from a section's first, which has the number `base`.
 ghost use mathlib.Core.Bool.{true, false};
 ghost use Prim.Native.Nat.{_+_, _<_, _≤_, _^_};
+ghost use mathlib.Core.Path.{_≡_};
+ghost use Rattle.shown.specs.Counted.{visitedIn};
 ghost use Rattle.shown.specs.Sought.{Sought};
 use lookups::WordNumber;
 
@@ -37,7 +39,7 @@ pub(crate) fn unvisited_from(map: &[u32], base: u32, words: u32, j: u32) -> u32
 // How many of the words were visited.
 pub(crate) fn count(map: &[u32], base: u32, words: u32) -> u32
     requires { ⌜ base + words < 2 ^ 32 ⌝ }
-    ensures { λ r. ⌜ r ≤ words ⌝ }
+    ensures { λ r. ⌜ r ≡ visitedIn (now (map .entry)) base words ⌝ }
 {
     let mut n = 0;
     let mut j = 0;

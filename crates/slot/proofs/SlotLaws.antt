@@ -105,7 +105,7 @@ module _ (ws : List ℕ) where
   unfolding Holds
   value-holds at tag head v e f h = rw (e, h 1 (omega arith), h 2 (omega arith), h 3 (omega arith)) (value-back v f)
 
-  register-holds : (at : ℕ) (g : Gpr) → markOf (g .value) < 256 → Holds ws at (registerWords g) → registerAt ws at ≡ g
+  pub register-holds : (at : ℕ) (g : Gpr) → markOf (g .value) < 256 → Holds ws at (registerWords g) → registerAt ws at ≡ g
   unfolding Holds
   register-holds at g f h =
       let v : List ℕ = quad (registerHead g) (numbersOf (g .value)) in
@@ -119,7 +119,7 @@ module _ (ws : List ℕ) where
       let head : getD ws at 0 ≡ registerHead g = rw (let z : at + 0 ≡ at = omega arith in z) at (h 0 (omega arith)) in
       rw (head, value-holds at (registerHead g % 16) (registerHead g) (g .value) tag f (holds-left ws at v q h), hi, lo, h 4 (omega arith), h 5 (omega arith), h 6 (omega arith), h 7 (omega arith), maybe-back (g .«hi_addr»), maybe-back (g .«lo_addr»))
 
-  compare-holds : (at : ℕ) (r : Cr) → FitsCr r → Holds ws at (compareWords r) → compareAt ws at ≡ r
+  pub compare-holds : (at : ℕ) (r : Cr) → FitsCr r → Holds ws at (compareWords r) → compareAt ws at ≡ r
   unfolding Holds
   compare-holds at r f h =
       let left : List ℕ = quad (compareHead r) (numbersOf (r .left)) in
@@ -132,13 +132,13 @@ module _ (ws : List ℕ) where
       let v = value-holds (at + 4) (getD ws (at + 4) 0) (numbersOf (r .right) .tag) (r .right) (h 4 (omega arith)) (f .right) (holds-right ws at left right h) in
       rw (head, u, v, bit, bit-back (r .signed))
 
-  held-holds : (at : ℕ) (l : Held) → markOf (l .value) < 256 → Holds ws at (valueWords (l .value)) → heldAt ws at ≡ l
+  pub held-holds : (at : ℕ) (l : Held) → markOf (l .value) < 256 → Holds ws at (valueWords (l .value)) → heldAt ws at ≡ l
   held-holds at l f h =
       let n = numbersOf (l .value) in
       rw (value-holds at (getD ws at 0) (n .tag) (l .value) (holds-first ws at (n .tag) (n .a ∷ n .b ∷ n .c ∷ []) h) f h)
 
   -- a state is read back wherever its words stand
-  state-holds : (at : ℕ) (s : VM) → Fits s → Holds ws at (stateWords s) → stateAt ws at ≡ s
+  pub state-holds : (at : ℕ) (s : VM) → Fits s → Holds ws at (stateWords s) → stateAt ws at ≡ s
   unfolding stateWords stateAt
   state-holds at s f h =
       let g : List ℕ = many registerWords blank 32 (s .gpr) in
@@ -195,11 +195,11 @@ mark-read t a b c = go (eqb t 1) (eqb t 2) (eqb t 3) (eqb t 4) (eqb t 5) (eqb t 
     go false false false false false false false false false = omega arith
 
 -- what is read fits, whatever the words
-pub state-fits : (ws : List ℕ) (at : ℕ) → Fits (stateIn ws at)
+pub state-fits : (ws : List ℕ) (at : ℕ) → Fits (stateAt ws at)
 unfolding stateAt
 state-fits ws at =
-    let r : ℕ → Gpr = λ i. registerAt ws (at + 2 + i * 8) in
-    let c : ℕ → Cr = λ i. compareAt ws (at + 2 + 256 + i * 8) in
+    let r : ℕ → Gpr = λ i. registerAt ws (at + i * 8) in
+    let c : ℕ → Cr = λ i. compareAt ws (at + 256 + i * 8) in
     record {
       gpr-count = listed-length r 32;
       cr-count = listed-length c 8;

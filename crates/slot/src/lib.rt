@@ -72,7 +72,7 @@ fn state_at(words: &[u32], at: usize) -> VM
 }
 
 // The state from a number on is written.
-fn put_state(words: &mut [u32], at: usize, s: VM)
+pub fn put_state(words: &mut [u32], at: usize, s: VM)
     requires { ⌜ at + stateSize ≤ length (now words) ⌝ }
     ensures { λ r. ⌜ (now (words .exit) ≡ put (now (words .entry)) at (stateWords s)) × Fits s ⌝ }
 {

@@ -9,7 +9,7 @@ ghost use lib.ListN.{length, getD, replicate};
 ghost use Rattle.vm.specs.Registers.{blank, noCr};
 ghost use Rattle.slot.specs.Put.{put};
 ghost use Rattle.slot.specs.Values.{markOf};
-ghost use Rattle.slot.specs.Layout.{registerWords, compareWords, endsWords, registerAt, compareAt, heldAt};
+ghost use Rattle.slot.specs.Layout.{registerWords, compareWords, valueWords, endsWords, registerAt, compareAt, heldAt};
 ghost use Rattle.slot.specs.Fits.{FitsCr};
 use crate::value::address_numbers;
 use crate::value::bit_of;
@@ -76,7 +76,7 @@ fn is_unset(c: Cr) -> bool
 }
 
 // The words of a record of which nothing is known.
-fn put_zeros(words: &mut [u32], at: usize)
+pub fn put_zeros(words: &mut [u32], at: usize)
     requires { ⌜ at + 8 ≤ length (now words) ⌝ }
     ensures { λ r. ⌜ now (words .exit) ≡ put (now (words .entry)) at (replicate 8 0) ⌝ }
 {
@@ -188,6 +188,15 @@ pub fn compare_at(words: &[u32], at: usize) -> Cr
         right: right,
         signed: head / 16 % 2 == 1,
     }
+}
+
+// A value in four words.
+pub fn put_value(words: &mut [u32], at: usize, v: GprValue)
+    requires { ⌜ at + 4 ≤ length (now words) ⌝ }
+    ensures { λ r. ⌜ (now (words .exit) ≡ put (now (words .entry)) at (valueWords v)) × (markOf v < 256) ⌝ }
+{
+    let n = numbers_of(v);
+    store4(words, at, n.tag, n.a, n.b, n.c);
 }
 
 // LR and CTR, four words each.

@@ -6,9 +6,17 @@ pub mod order;
 ghost use mathlib.Core.Path.{_≡_};
 ghost use Prim.Native.Nat.{_+_, _-_, _<_, _≤_};
 ghost use lib.ListN.{length};
+ghost use Rattle.cells.specs.Cells.{stateOf, Cells};
+ghost use Rattle.clones.specs.Clones.{madeOf};
 ghost use Rattle.slot.specs.Fits.{Fits};
+ghost use Rattle.slot.specs.Layout.{stateSize};
 ghost use Rattle.stack.specs.Stack.{room, highOf, Stack, heldAt};
 ghost use Rattle.stack.specs.Push.{nextSlot, nextHigh, appended, Pushes};
+use cells::STATE_WORDS;
+use cells::put_state;
+use clones::Made;
+use clones::copy;
+use clones::put_made;
 use order::room_of;
 use order::slot_at;
 use order::sort;
@@ -53,25 +61,32 @@ fn next_high(words: &[u32], count: usize) -> u32
 }
 
 // A slot for one state more, written, then entered on top.
-fn enter(words: &mut [u32], count: usize, p: SectionAddress, s: VM)
-    requires { ⌜ (Stack (now words) count) × (count < room (length (now words))) ⌝ }
-    ensures { λ r. ⌜ (now (words .exit) ≡ appended (now (words .entry)) count p s) × Fits s ⌝ }
+fn enter(words: &mut [u32], count: usize, p: SectionAddress, cells: &[u32], made: Made)
+    requires { ⌜ (Stack (now words) count) × (count < room (length (now words))) × Cells (now cells) (stateOf (now cells)) ⌝ }
+    ensures { λ r. ⌜ (now (words .exit) ≡ appended (now (words .entry)) count p (madeOf made (stateOf (now (cells .entry))))) × Fits (madeOf made (stateOf (now (cells .entry)))) ⌝ }
 {
     let k = next_slot(words, count);
     let high = next_high(words, count);
     let sorted = order::sorted_of(words, count);
     let at = slot_at(words, k);
-    slot::put_slot(words, at, p, s);
+    put_made(words, at, p, cells, made);
     words[0] = high;
     words[1] = sorted as u32;
     words[2 + count] = k;
 }
 
-// One state more: on top, or, sorted, with the whole stack brought in order of place, stably. While all slots are held it is not
-// taken, and nothing is touched.
-pub fn push(words: &mut [u32], count: usize, p: SectionAddress, s: VM, sorted: bool) -> Pushed
-    requires { ⌜ Stack (now words) count ⌝ }
-    ensures { λ r. ⌜ Pushes (now (words .entry)) count p s sorted r (now (words .exit)) ⌝ }
+// One state more, what a way makes of the one in the cells: on top, or, sorted, with the whole stack brought in order of place,
+// stably. While all slots are held it is not taken, and nothing is touched.
+pub fn push(
+    words: &mut [u32],
+    count: usize,
+    p: SectionAddress,
+    cells: &[u32],
+    made: Made,
+    sorted: bool,
+) -> Pushed
+    requires { ⌜ (Stack (now words) count) × Cells (now cells) (stateOf (now cells)) ⌝ }
+    ensures { λ r. ⌜ Pushes (now (words .entry)) count p (madeOf made (stateOf (now (cells .entry)))) sorted r (now (words .exit)) ⌝ }
 {
     if room_of(words.len()) <= count {
         return Pushed {
@@ -79,7 +94,7 @@ pub fn push(words: &mut [u32], count: usize, p: SectionAddress, s: VM, sorted: b
             count: count,
         };
     }
-    enter(words, count, p, s);
+    enter(words, count, p, cells, made);
     if sorted {
         sort(words, count + 1);
         return Pushed {
@@ -91,6 +106,16 @@ pub fn push(words: &mut [u32], count: usize, p: SectionAddress, s: VM, sorted: b
         taken: true,
         count: count + 1,
     }
+}
+
+// The same with a state that is handed in by value: it is laid out first.
+pub fn push_state(words: &mut [u32], count: usize, p: SectionAddress, s: VM, sorted: bool) -> Pushed
+    requires { ⌜ Stack (now words) count ⌝ }
+    ensures { λ r. ⌜ Pushes (now (words .entry)) count p s sorted r (now (words .exit)) ⌝ }
+{
+    let mut cells = [0u32; STATE_WORDS];
+    put_state(&mut cells, s);
+    push(words, count, p, &cells, Made::Same, sorted)
 }
 
 // The place of the i-th held state, counted from the lowest: a few reads.
@@ -115,4 +140,13 @@ pub fn top_state(words: &[u32], count: usize) -> VM
     ensures { λ r. ⌜ r ≡ heldAt (now (words .entry)) (count - 1) .state ⌝ }
 {
     slot::state_in(words, slot_at(words, words[1 + count]))
+}
+
+// The state that pops next, copied into cells: it is not decoded.
+pub fn top_cells(words: &[u32], count: usize, cells: &mut [u32])
+    requires { ⌜ (Stack (now words) count) × (0 < count) × (length (now cells) ≡ stateSize) ⌝ }
+    ensures { λ r. ⌜ Cells (now (cells .exit)) (heldAt (now (words .entry)) (count - 1) .state) ⌝ }
+{
+    let at = slot_at(words, words[1 + count]);
+    copy(cells, 0, words, at + 2, STATE_WORDS);
 }

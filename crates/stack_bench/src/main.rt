@@ -1,9 +1,14 @@
-// What pushes and pops cost, by the first byte of standard input: a nothing, b 3,000 sorted pushes ascending, c descending, e is b with
-// 3,000 pops of places alone, d is e with 3,000 pops with their state and pushes before it, f is b with a test of the whole stack.
+// What pushes and pops cost, by the first byte of standard input: a nothing, b 3,000 sorted pushes from cells ascending, c descending, e is b
+// with 3,000 pops of places alone, d is e with 3,000 pops into cells and pushes from them before it, f is b with a test of the whole stack.
+// The same with states by value: g is b with them, h is d with such pops and pushes.
 ghost use mathlib.Core.Path.{_≡_};
 ghost use Prim.Native.Nat.{_<_};
 ghost use lib.ListN.{length};
+ghost use Rattle.cells.specs.Cells.{stateOf, Cells};
+ghost use Rattle.slot.specs.Layout.{stateSize};
 ghost use Rattle.stack.specs.Stack.{Stack};
+use cells::STATE_WORDS;
+use clones::Made;
 use libc::STDOUT_FILENO;
 use places::MaybeAddress;
 use places::SectionAddress;
@@ -55,7 +60,9 @@ fn address(i: usize, down: bool) -> u32
     }
 }
 
-fn fill(words: &mut [u32], down: bool, s: VM) -> usize
+// Sorted pushes from cells.
+fn fill(words: &mut [u32], down: bool, cells: &[u32]) -> usize
+    requires { ⌜ Cells (now cells) (stateOf (now cells)) ⌝ }
     ensures { λ r. ⌜ Stack (now (words .exit)) r ⌝ }
 {
     let mut n: usize = 0;
@@ -65,7 +72,25 @@ fn fill(words: &mut [u32], down: bool, s: VM) -> usize
             section: 3,
             address: address(i, down),
         };
-        let r = stack::push(words, n, p, s, true);
+        let r = stack::push(words, n, p, cells, Made::Same, true);
+        n = r.count;
+        i = i + 1;
+    }
+    n
+}
+
+// Sorted pushes of a state by value.
+fn fill_states(words: &mut [u32], down: bool, s: VM) -> usize
+    ensures { λ r. ⌜ Stack (now (words .exit)) r ⌝ }
+{
+    let mut n: usize = 0;
+    let mut i: usize = 0;
+    while i < 3000 {
+        let p = SectionAddress {
+            section: 3,
+            address: address(i, down),
+        };
+        let r = stack::push_state(words, n, p, s, true);
         n = r.count;
         i = i + 1;
     }
@@ -73,7 +98,27 @@ fn fill(words: &mut [u32], down: bool, s: VM) -> usize
 }
 
 // The last state popped and pushed again, 3,000 times.
-fn churn(words: &mut [u32], n: usize) -> usize
+fn churn(words: &mut [u32], n: usize, cells: &mut [u32]) -> usize
+    requires { ⌜ (Stack (now words) n) × (length (now cells) ≡ stateSize) ⌝ }
+    ensures { λ r. ⌜ Stack (now (words .exit)) r ⌝ }
+{
+    let mut m = n;
+    let mut i: usize = 0;
+    while i < 3000 {
+        if m == 0 {
+            return m;
+        }
+        let p = stack::top_place(words, m);
+        stack::top_cells(words, m, cells);
+        let r = stack::push(words, m - 1, p, cells, Made::Same, true);
+        m = r.count;
+        i = i + 1;
+    }
+    m
+}
+
+// The same by value.
+fn churn_states(words: &mut [u32], n: usize) -> usize
     requires { ⌜ Stack (now words) n ⌝ }
     ensures { λ r. ⌜ Stack (now (words .exit)) r ⌝ }
 {
@@ -85,7 +130,7 @@ fn churn(words: &mut [u32], n: usize) -> usize
         }
         let p = stack::top_place(words, m);
         let s = stack::top_state(words, m);
-        let r = stack::push(words, m - 1, p, s, true);
+        let r = stack::push_state(words, m - 1, p, s, true);
         m = r.count;
         i = i + 1;
     }
@@ -110,9 +155,19 @@ fn run(words: &mut [u32], mode: u8) -> u32 {
         return 1;
     }
     let s = start(mode as u32);
-    let n = fill(words, mode == b'c', s);
+    if mode == b'g' {
+        fill_states(words, false, s);
+        return 5;
+    }
+    let mut cells = [0u32; STATE_WORDS];
+    cells::put_state(&mut cells, s);
+    let n = fill(words, mode == b'c', &cells);
     if mode == b'd' {
-        let m = churn(words, n);
+        let m = churn(words, n, &mut cells);
+        return drain(words, m);
+    }
+    if mode == b'h' {
+        let m = churn_states(words, n);
         return drain(words, m);
     }
     if mode == b'e' {

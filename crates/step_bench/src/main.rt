@@ -4,6 +4,7 @@ ghost use mathlib.Core.Path.{_≡_};
 ghost use mathlib.Core.Bool.{true};
 ghost use lib.ListN.{length};
 ghost use Rattle.image.specs.Rules.{tablesSound};
+use cells::STATE_WORDS;
 use libc::STDIN_FILENO;
 use libc::STDOUT_FILENO;
 use places::SectionAddress;
@@ -24,7 +25,9 @@ fn repeat(im: &[u32], code: &[u8], turns: u32) -> u32
     let mut stopped: u32 = 0;
     let mut k: u32 = 0;
     while k < turns {
-        let r = runs::run(im, code, start, vm::state::new());
+        let mut state = [0u32; STATE_WORDS];
+        cells::put_state(&mut state, vm::state::new());
+        let r = runs::run(im, code, start, &mut state);
         let at = r.at;
         stopped = at.address;
         k += 1;

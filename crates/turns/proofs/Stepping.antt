@@ -88,7 +88,7 @@ branch-leaves w always t c =
     either-way (flag w 31) (leave.Call t) (pick always (leave.Jump t) (conditionalOf w t c)) refl
     (either-way always (leave.Jump t) (conditionalOf w t c) refl (conditional-leaves w t c))
 
-way-leaves : (y : Way) (ws : List ℕ) (at : SectionAddress) (w : ℕ) (v : GprValue) (c : Cr) → isEnded (leaveOf y ws at w v c) ≡ false
+pub way-leaves : (y : Way) (ws : List ℕ) (at : SectionAddress) (w : ℕ) (v : GprValue) (c : Cr) → isEnded (leaveOf y ws at w v c) ≡ false
 unfolding leaveOf
 way-leaves way.Illegal ws at w v c = refl
 way-leaves way.B ws at w v c = either-way (flag w 31 && flag w 30) (leave.Jump branch.Unknown) (branchOf w true (destTarget ws at w) c) refl (branch-leaves w true (destTarget ws at w) c)

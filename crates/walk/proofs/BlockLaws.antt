@@ -20,6 +20,10 @@ use Rattle.lookups.specs.Bytes.{dataFrom}
 use Rattle.lookups.specs.Code.{codePlace, wordNumber}
 use Rattle.vm.specs.declared.VM.{VM}
 use Rattle.step.specs.declared.Stopped.{Stopped}
+use Rattle.cells.specs.Cells.{stateOf}
+use Rattle.cells.proofs.CellLaws.{cells-state}
+use Rattle.runs.specs.declared.Halted.{Halted}
+use Rattle.runs.specs.Went.{Halts}
 use Rattle.step.specs.Runs.{runOf}
 use Rattle.visited.specs.Bits.{visitedAt, withBit, withRun, onesBelow}
 use Rattle.turns.specs.Grounds.{busy, jump}
@@ -70,6 +74,11 @@ block-begins ws bs p s v w = record {
   few = omega arith;
   fewer = omega arith;
 }
+
+-- where a run halted, with the state in the cells, is where the run stops
+pub halted : {ws code vs : List ℕ} {at : SectionAddress} {s : VM} {r : Halted} → Halts ws code at s r vs
+    → _≡_ {A = Stopped} (record { leave = r .leave; at = r .at; vm = stateOf vs }) (runOf ws code 0 (length code / 4) at s)
+halted h = rw (h .leave, h .place, cells-state (h .cells))
 
 module _ {ws bs : List ℕ} (fine : sound ws (length bs) ≡ true) {p₀ : SectionAddress} {s₀ : VM} {v₀ : List ℕ} (bits : codeWords ws ≤ length v₀ * 32)
     {p : SectionAddress} {t : VM} {v : List ℕ} {n b : ℕ} (h : Within ws bs p₀ s₀ v₀ p t v n b) where

@@ -31,9 +31,8 @@ use Rattle.turns.proofs.HeadLaws.{head-fits, head-full, head-empty, head-pop-ol
 use Rattle.pushes.specs.declared.Taken.{Taken}
 use Rattle.pushes.specs.Takes.{TakenWays}
 use Rattle.walk.specs.declared.Begun.{Begun}
-use Rattle.walk.specs.declared.Ended.{Ended}
 use Rattle.walk.specs.Starts.{placesOf, isDone, Begins}
-use Rattle.walk.specs.Blocks.{Last, past, jumps-out, jumps-old, leaves-by, Block}
+use Rattle.walk.specs.Blocks.{Last, past, jumps-out, jumps-old, leaves-by, Block, Ending}
 use Rattle.walk.proofs.StartLaws.{refused-is, judged-fine}
 
 -- counts far below 2^64
@@ -71,7 +70,7 @@ module _ (i : Given) (vis : List ℕ) (lent : Lent) (fine : judged i vis ≡ ans
     turn-old o = head-pop-old i vis lent fine h (k - 1) one o
 
     -- its word was not
-    module _ (new : visitedAt v (wordNumber (i .tables) (heldAt words (k - 1) .place)) ≡ false) {r : Ended} {v′ : List ℕ}
+    module _ (new : visitedAt v (wordNumber (i .tables) (heldAt words (k - 1) .place)) ≡ false) {r : Ending} {v′ : List ℕ}
         (block : Block (groundIn i lent) (heldAt words (k - 1) .place) (heldAt words (k - 1) .state) v r v′) where
       carried : a + (block .many + 1) ≡ a + block .many + 1
       carried = omega arith
@@ -164,7 +163,7 @@ module _ {ws bs starts : List ℕ} {two thirteen : MaybeBase} {vis words : List 
         pub walk-below : Stack words″ (k - 1)
         walk-below = head-below i vis lent fine top-head some
 
-        module _ (new : visitedAt v (wordNumber ws (heldAt words″ (k - 1) .place)) ≡ false) {e : Ended} {v′ : List ℕ}
+        module _ (new : visitedAt v (wordNumber ws (heldAt words″ (k - 1) .place)) ≡ false) {e : Ending} {v′ : List ℕ}
             (block : (from : SectionAddress) (upto : MaybeAddress) (slots : ℕ)
             → Block (groundOf ws bs from upto slots) (heldAt words″ (k - 1) .place) (heldAt words″ (k - 1) .state) v e v′) where
           pub walk-idle : e .leaves ≡ false → Fit (a + e .stepped) (b + 1 + e .begun) c d × (headLeft i lent (k - 1) v′ < headLeft i lent k v)

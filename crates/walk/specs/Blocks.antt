@@ -2,7 +2,7 @@
 -- Assumes nothing.
 use Prim.Native.Nat.{ℕ, _+_}
 use mathlib.Core.Path.{_≡_}
-use mathlib.Core.Bool.{true, false}
+use mathlib.Core.Bool.{Bool, true, false}
 use mathlib.Core.List.{List}
 use lib.Dec.{eqb}
 use Rattle.words.specs.Choice.{pick}
@@ -23,6 +23,7 @@ use Rattle.turns.specs.Grounds.{Way, jump, leave, Ground}
 use Rattle.turns.specs.Runs.{Going}
 use Rattle.turns.specs.Moves.{Asked, Lent}
 use Rattle.turns.specs.Straight.{leaving}
+use Rattle.step.specs.declared.Stopped.{Stopped}
 use Rattle.walk.specs.declared.Ended.{Ended}
 
 -- a target in the section of that index
@@ -49,8 +50,18 @@ jumpIn (leaver.Both t) n = Nowhere
 abbrev pub Here : Type 0
 Here = Ground SectionAddress VM Asked Outcome Entry Lent
 
+-- how a block ended, with the state that the cells hold then
+pub record Ending : Type 0 where
+  pub leaves : Bool
+  pub last : Stopped
+  pub stepped : ℕ
+  pub begun : ℕ
+
+abbrev pub endingOf : Ended → VM → Ending
+endingOf r t = record { leaves = r .leaves; last = record { leave = r .leave; at = r .at; vm = t }; stepped = r .stepped; begun = r .begun }
+
 -- what ends a block: at the place q with the state t, the map u and m words stepped; the map is v′ then
-pub data Last (g : Here) (q : SectionAddress) (t : VM) (u : List ℕ) (m : ℕ) (r : Ended) (v′ : List ℕ) : Type 0 where
+pub data Last (g : Here) (q : SectionAddress) (t : VM) (u : List ℕ) (m : ℕ) (r : Ending) (v′ : List ℕ) : Type 0 where
   -- the section's end
   past : g .isWord q ≡ false → r .leaves ≡ false → r .stepped ≡ m → v′ ≡ u → Last g q t u m r v′
   -- a jump to what is no word of code
@@ -64,7 +75,7 @@ pub data Last (g : Here) (q : SectionAddress) (t : VM) (u : List ℕ) (m : ℕ) 
       → r .leaves ≡ true → r .stepped ≡ m + 1 → v′ ≡ withBit u (g .number q) → Last g q t u m r v′
 
 -- the block at the word p with the state s and the map v
-pub record Block (g : Here) (p : SectionAddress) (s : VM) (v : List ℕ) (r : Ended) (v′ : List ℕ) : Type 0 where
+pub record Block (g : Here) (p : SectionAddress) (s : VM) (v : List ℕ) (r : Ending) (v′ : List ℕ) : Type 0 where
   pub many : ℕ
   pub map : List ℕ
   pub line : Going g p s v (r .last .at) (r .last .vm) map many (r .begun)

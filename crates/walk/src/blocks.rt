@@ -8,8 +8,8 @@ ghost use Rattle.image.specs.Rules.{codeWords, sound, tablesSound};
 ghost use Rattle.lookups.specs.Code.{codePlace, wordNumber};
 ghost use Rattle.visited.specs.Bits.{visitedAt};
 ghost use Rattle.turns.specs.Moves.{isFine, groundOf};
-ghost use Rattle.turns.specs.Straight.{isEnded};
-ghost use Rattle.walk.specs.Blocks.{targetIn, branchIn, jumpIn, Block};
+ghost use Rattle.cells.specs.Cells.{stateOf, Cells};
+ghost use Rattle.walk.specs.Blocks.{targetIn, branchIn, jumpIn, endingOf, Block};
 use crate::Ended;
 use lookups::CodePlace;
 use lookups::code_place;
@@ -17,28 +17,9 @@ use lookups::word_number;
 use places::MaybeAddress;
 use places::RelocationTarget;
 use places::SectionAddress;
+use runs::is_ended;
 use step::Leave;
 use vm::BranchTarget;
-use vm::VM;
-
-// Whether a run met its section's end.
-fn is_ended(l: Leave) -> bool
-    ensures { λ r. ⌜ r ≡ isEnded l ⌝ }
-{
-    match l {
-        Leave::Ended => true,
-        Leave::Illegal => false,
-        Leave::Jump(_) => false,
-        Leave::Call(_) => false,
-        Leave::Fork {
-            target: _,
-            crf: _,
-            stays: _,
-            goes: _,
-        } => false,
-        Leave::Both(_) => false,
-    }
-}
 
 // A target in the section of that index.
 fn target_in(t: RelocationTarget, section: u32) -> MaybeAddress
@@ -100,18 +81,24 @@ fn is_new(im: &[u32], map: &[u32], q: SectionAddress) -> bool
     }
 }
 
-// The block at a word of code, from a state. What it runs over is marked; the word that leaves is marked and not yet followed.
-pub fn run_block(im: &[u32], bytes: &[u8], map: &mut [u32], from: SectionAddress, s: VM) -> Ended
-    requires { ⌜ (sound (now im) (length (now bytes)) ≡ true) × (codeWords (now im) ≤ length (now map) * 32) × (isFine (codePlace (now im) from) ≡ true) ⌝ }
-    ensures { λ r. ⌜ ((start : SectionAddress) (end : MaybeAddress) (slots : ℕ) → Block (groundOf (now (im .entry)) (now (bytes .entry)) start end slots) from s (now (map .entry)) r (now (map .exit))) ⌝ }
+// The block at a word of code, from the state in the cells. What it runs over is marked; the word that leaves is marked and not yet
+// followed, and the cells hold the state before it.
+pub fn run_block(
+    im: &[u32],
+    bytes: &[u8],
+    map: &mut [u32],
+    from: SectionAddress,
+    cells: &mut [u32],
+) -> Ended
+    requires { ⌜ (sound (now im) (length (now bytes)) ≡ true) × (codeWords (now im) ≤ length (now map) * 32) × (isFine (codePlace (now im) from) ≡ true) × Cells (now cells) (stateOf (now cells)) ⌝ }
+    ensures { λ r. ⌜ Cells (now (cells .exit)) (stateOf (now (cells .exit))) × ((start : SectionAddress) (end : MaybeAddress) (slots : ℕ) → Block (groundOf (now (im .entry)) (now (bytes .entry)) start end slots) from (stateOf (now (cells .entry))) (now (map .entry)) (endingOf r (stateOf (now (cells .exit)))) (now (map .exit))) ⌝ }
 {
     let mut p = from;
-    let mut t = s;
     let mut stepped: u64 = 0;
     let mut begun: u64 = 0;
     loop {
         let code = lookups::data_from(im, bytes, p);
-        let r = runs::run(im, code, p, t);
+        let r = runs::run(im, code, p, cells);
         let at = r.at;
         let l = r.leave;
         let w = word_number(im, p);
@@ -120,7 +107,8 @@ pub fn run_block(im: &[u32], bytes: &[u8], map: &mut [u32], from: SectionAddress
             visited::mark_run(map, w, many);
             return Ended {
                 leaves: false,
-                last: r,
+                leave: l,
+                at,
                 stepped: stepped + many as u64,
                 begun,
             };
@@ -131,7 +119,8 @@ pub fn run_block(im: &[u32], bytes: &[u8], map: &mut [u32], from: SectionAddress
             MaybeAddress::Nowhere => {
                 return Ended {
                     leaves: true,
-                    last: r,
+                    leave: l,
+                    at,
                     stepped,
                     begun,
                 };
@@ -140,12 +129,12 @@ pub fn run_block(im: &[u32], bytes: &[u8], map: &mut [u32], from: SectionAddress
                 if is_new(im, map, q) {
                     begun = begun + 1;
                     p = q;
-                    t = r.vm;
                     continue;
                 }
                 return Ended {
                     leaves: false,
-                    last: r,
+                    leave: l,
+                    at,
                     stepped,
                     begun,
                 };

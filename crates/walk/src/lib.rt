@@ -7,13 +7,14 @@ ghost use mathlib.Core.Path.{_≡_};
 ghost use Rattle.turns.specs.Walks.{given, walked};
 ghost use Rattle.walk.specs.Starts.{placesOf};
 use blocks::run_block;
+use cells::STATE_WORDS;
 use lookups::word_number;
 use places::MaybeAddress;
 use places::SectionAddress;
 use pushes::take;
 use starts::begin;
 use starts::is_done;
-use step::Stopped;
+use step::Leave;
 use turns::WalkAnswer;
 use turns::Walked;
 use vm::MaybeBase;
@@ -28,12 +29,13 @@ pub struct Begun {
     pub full: bool,
 }
 
-// How a block ended. `leaves`: its last word leaves by ways that are still to take; else nothing is left to do there. `last` is the
+// How a block ended. `leaves`: its last word leaves by ways that are still to take; else nothing is left to do there. `at` is the
 // word that left, or the section's end. Then how many words were stepped, the last one included where there is one, and how many
 // blocks were begun by jumps inside the section.
 pub struct Ended {
     pub leaves: bool,
-    pub last: Stopped,
+    pub leave: Leave,
+    pub at: SectionAddress,
     pub stepped: u64,
     pub begun: u64,
 }
@@ -69,6 +71,7 @@ pub fn walk(
             held: 0,
         };
     }
+    let mut state = [0u32; STATE_WORDS];
     let mut held = b.held;
     let mut full = b.full;
     let mut stepped: u64 = 0;
@@ -101,11 +104,11 @@ pub fn walk(
             held = held - 1;
             continue;
         }
-        let e = run_block(im, data, map, p, stack::top_state(stack, held));
+        stack::top_cells(stack, held, &mut state);
+        let e = run_block(im, data, map, p, &mut state);
         held = held - 1;
         if e.leaves {
-            let l = e.last;
-            let leave = l.leave;
+            let leave = e.leave;
             let t = take(
                 im,
                 data,
@@ -114,9 +117,9 @@ pub fn walk(
                 stack,
                 held,
                 entries,
-                l.at,
+                e.at,
                 leave,
-                l.vm,
+                &state,
             );
             held = t.held;
             full = t.full;

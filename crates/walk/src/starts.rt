@@ -9,6 +9,8 @@ ghost use Rattle.vm.specs.declared.MaybeBase.{MaybeBase};
 ghost use Rattle.turns.specs.Walks.{given, startsJudged, judged};
 ghost use Rattle.walk.specs.Starts.{placesOf, isDone, Begins};
 use crate::Begun;
+use cells::STATE_WORDS;
+use clones::Made;
 use image::Judged;
 use image::code::code_words;
 use lookups::CodePlace;
@@ -86,8 +88,9 @@ pub fn begin(
     let a = judge(im, data, starts, map);
     if is_done(a) {
         visited::clear(map, code_words(im));
-        let s = new_with_base(two, thirteen);
-        let t = push_keys(im, stack, 0, starts, starts.len(), s);
+        let mut fresh = [0u32; STATE_WORDS];
+        cells::put_state(&mut fresh, new_with_base(two, thirteen));
+        let t = push_keys(im, stack, 0, starts, starts.len(), &fresh, Made::Same);
         return Begun {
             answer: a,
             held: t.held,

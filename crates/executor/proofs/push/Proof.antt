@@ -36,8 +36,8 @@ enum-told-5 c = search needs
 enum-told-6 : tie.Need-enum-told-6
 enum-told-6 c = search needs
 
-push-requires : tie.Need-push-requires
-push-requires c κs =
+push-state-requires : tie.Need-push-state-requires
+push-state-requires c κs =
     let a = c .before .before .before .before .before .before .before .before .before .before .before .args in
     judged (a .im .now) (length (a .«data» .now)) (a .stack .now) (a .count) phase.Idle (a .p) (sym (c .before .before .before .before .before .before .judge .ensures) ∙ c .before .before .before .before .enum-told3 .given .1) .held
 
@@ -47,7 +47,7 @@ same-length c = search needs
 returns : tie.Need-returns
 returns c =
     let a = c .before .before .before .before .before .before .before .before .before .before .before .before .before .before .before .args in
-    push-done (a .im .now) (length (a .«data» .now)) (a .stack .now) (a .count) (a .p) (a .s) (a .sorted) (sym (c .before .before .before .before .before .before .before .before .before .before .judge .ensures) ∙ c .before .before .before .before .before .before .before .before .enum-told3 .given .1) (sym (c .before .before .before .before .before .before .before .code-place .ensures) ∙ c .before .before .before .before .before .enum-told6 .given .1) _ _ (c .before .before .before .push .ensures) (c .if1 .taken)
+    push-done (a .im .now) (length (a .«data» .now)) (a .stack .now) (a .count) (a .p) (a .s) (a .sorted) (sym (c .before .before .before .before .before .before .before .before .before .before .judge .ensures) ∙ c .before .before .before .before .before .before .before .before .enum-told3 .given .1) (sym (c .before .before .before .before .before .before .before .code-place .ensures) ∙ c .before .before .before .before .before .enum-told6 .given .1) _ _ (c .before .before .before .push-state .ensures) (c .if1 .taken)
 
 same-length-2 : tie.Need-same-length-2
 same-length-2 c = search needs
@@ -87,7 +87,7 @@ same-length-6 c = search needs
 returns-6 : tie.Need-returns-6
 returns-6 c =
     let a = c .before .before .before .before .before .before .before .before .before .before .before .before .before .before .before .args in
-    push-full (a .im .now) (length (a .«data» .now)) (a .stack .now) (a .count) (a .p) (a .s) (a .sorted) (sym (c .before .before .before .before .before .before .before .before .before .before .judge .ensures) ∙ c .before .before .before .before .before .before .before .before .enum-told3 .given .1) (sym (c .before .before .before .before .before .before .before .code-place .ensures) ∙ c .before .before .before .before .before .enum-told6 .given .1) _ _ (c .before .before .before .push .ensures) (c .if1 .left)
+    push-full (a .im .now) (length (a .«data» .now)) (a .stack .now) (a .count) (a .p) (a .s) (a .sorted) (sym (c .before .before .before .before .before .before .before .before .before .before .judge .ensures) ∙ c .before .before .before .before .before .before .before .before .enum-told3 .given .1) (sym (c .before .before .before .before .before .before .before .code-place .ensures) ∙ c .before .before .before .before .before .enum-told6 .given .1) _ _ (c .before .before .before .push-state .ensures) (c .if1 .left)
 
 pub push-spec : {M : Type 1} → statement M
 push-spec =
@@ -101,7 +101,7 @@ push-spec =
     enum-told-4
     enum-told-5
     enum-told-6
-    push-requires
+    push-state-requires
     same-length
     returns
     same-length-2

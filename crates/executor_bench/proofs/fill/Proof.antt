@@ -24,8 +24,8 @@ loop-holds c = (omega arith, refl, empty-stack (c .before .args .words .now))
 place-requires : tie.Need-place-requires Inv-loop μ-loop
 place-requires c κs = search needs
 
-push-requires : tie.Need-push-requires Inv-loop μ-loop
-push-requires c κs = search needs
+push-state-requires : tie.Need-push-state-requires Inv-loop μ-loop
+push-state-requires c κs = search needs
 
 add-i : tie.Need-add-i Inv-loop μ-loop
 add-i c = search needs
@@ -36,7 +36,7 @@ loop-less c = search needs
 loop-again : tie.Need-loop-again Inv-loop μ-loop
 loop-again c =
     let q = c .before .before .before .before .before .before .loop in
-    let r = c .before .before .push in
+    let r = c .before .before .push-state in
     (omega arith, r .kept .0 ∙ q .inv .1, push-stack (q .words) (q .n) _ (c .before .before .before .before .before .before .before .before .args .s) (q .inv .2) true (r .result) (r .last .0) (r .ensures))
 
 same-length : tie.Need-same-length Inv-loop μ-loop
@@ -53,7 +53,7 @@ fill-spec =
     μ-loop
     loop-holds
     place-requires
-    push-requires
+    push-state-requires
     add-i
     loop-less
     loop-again

@@ -2,6 +2,7 @@
 -- Assumes nothing.
 use Rattle.turns.proofs.Leavings.{leaving-illegal}
 use Rattle.pushes.proofs.LeaveLaws.{leaving-ended, taken-nothing}
+use Rattle.cells.specs.Cells.{stateOf}
 use borrow.Author.Needs.{needs}
 use Rattle.pushes.proofs.take.Statement.{statement}
 use Rattle.pushes.proofs.take.Tie as tie
@@ -22,37 +23,33 @@ enum-known-l : tie.Need-enum-known-l
 enum-known-l c = search needs
 
 take-jump-requires : tie.Need-take-jump-requires
-take-jump-requires c κs = c .before .before .before .before .before .before .before .before .before .pre
+take-jump-requires c κs = c .before .before .before .before .before .before .before .before .before .before .pre
 
 enum-known-l-2 : tie.Need-enum-known-l-2
 enum-known-l-2 c = search needs
 
 take-call-requires : tie.Need-take-call-requires
-take-call-requires c κs = c .before .before .before .before .before .before .before .before .before .pre
+take-call-requires c κs = c .before .before .before .before .before .before .before .before .before .before .pre
 
 enum-known-l-3 : tie.Need-enum-known-l-3
 enum-known-l-3 c = search needs
 
 take-fork-requires : tie.Need-take-fork-requires
-take-fork-requires c κs = c .before .before .before .before .before .before .before .before .before .pre
+take-fork-requires c κs = c .before .before .before .before .before .before .before .before .before .before .pre
 
 enum-known-l-4 : tie.Need-enum-known-l-4
 enum-known-l-4 c = search needs
 
 take-both-requires : tie.Need-take-both-requires
-take-both-requires c κs = c .before .before .before .before .before .before .before .before .before .pre
+take-both-requires c κs = c .before .before .before .before .before .before .before .before .before .before .pre
 
 returns : tie.Need-returns
-returns c =
-    let b = c .before .before .before .before .before .before .before in
-    let a = b .args in
-    taken-nothing (a .im .now) (a .bytes .now) (a .from) (a .upto) (a .stack .now) (a .count) (a .entries .now) (a .at) (a .l) (a .s) (b .pre .1 .0) (b .pre .1 .1) (c .nothing .result) (rw (c .before .enum-told .given .1) (leaving-ended (a .at) (a .s))) (c .nothing .ensures)
+returns c = let a = c .before .before .before .before .before .before .before .before .args in
+    taken-nothing (a .im .now) (a .bytes .now) (a .from) (a .upto) (a .stack .now) (a .count) (a .entries .now) (a .at) (a .l) (stateOf (a .cells .now)) (c .before .before .before .before .before .before .before .before .pre .1 .0) (c .before .before .before .before .before .before .before .before .pre .1 .1) (c .nothing .result) (rw (c .before .enum-told .given .1) (leaving-ended (a .at) (stateOf (a .cells .now)))) (c .nothing .ensures)
 
 returns-2 : tie.Need-returns-2
-returns-2 c =
-    let b = c .before .before .before .before .before .before .before in
-    let a = b .args in
-    taken-nothing (a .im .now) (a .bytes .now) (a .from) (a .upto) (a .stack .now) (a .count) (a .entries .now) (a .at) (a .l) (a .s) (b .pre .1 .0) (b .pre .1 .1) (c .nothing2 .result) (rw (c .before .enum-told2 .given .1) (leaving-illegal (a .at) (a .s))) (c .nothing2 .ensures)
+returns-2 c = let a = c .before .before .before .before .before .before .before .before .args in
+    taken-nothing (a .im .now) (a .bytes .now) (a .from) (a .upto) (a .stack .now) (a .count) (a .entries .now) (a .at) (a .l) (stateOf (a .cells .now)) (c .before .before .before .before .before .before .before .before .pre .1 .0) (c .before .before .before .before .before .before .before .before .pre .1 .1) (c .nothing2 .result) (rw (c .before .enum-told2 .given .1) (leaving-illegal (a .at) (stateOf (a .cells .now)))) (c .nothing2 .ensures)
 
 same-length : tie.Need-same-length
 same-length c = search needs

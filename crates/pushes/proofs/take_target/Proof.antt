@@ -2,12 +2,14 @@
 -- Assumes nothing.
 use mathlib.Core.Path.{refl}
 use lib.ListN.{length}
-use borrow.Author.Needs.{needs}
 use Rattle.stack.specs.Stack.{room}
 use Rattle.turns.specs.Grounds.{table}
 use Rattle.turns.specs.Moves.{askedOf, groundOf}
 use Rattle.turns.proofs.PileLaws.{piles-no-way}
 use Rattle.pushes.proofs.WayLaws.{one-way, place-alone}
+use Rattle.cells.specs.Cells.{stateOf}
+use Rattle.clones.specs.Clones.{madeOf}
+use borrow.Author.Needs.{needs}
 use Rattle.pushes.proofs.take_target.Statement.{statement}
 use Rattle.pushes.proofs.take_target.Tie as tie
 
@@ -45,30 +47,22 @@ take-table-requires : tie.Need-take-table-requires
 take-table-requires c κs = search needs
 
 returns : tie.Need-returns
-returns c =
-    let b = c .before .before .before .before .before .before .before in
-    let a = b .args in
-    rw (c .before .enum-told .given .1, c .nothing .ensures) (λ p. piles-no-way (groundOf (a .im .now) (a .bytes .now) (a .from) (a .upto) (room (length (a .stack .now)))) p (b .pre .1 .0))
+returns c = let a = c .before .before .before .before .before .before .before .before .args in
+    rw (c .before .enum-told .given .1, c .nothing .ensures) (λ p. piles-no-way (groundOf (a .im .now) (a .bytes .now) (a .from) (a .upto) (room (length (a .stack .now)))) p (c .before .before .before .before .before .before .before .before .pre .1 .0))
 
 returns-2 : tie.Need-returns-2
-returns-2 c =
-    let b = c .before .before .before .before .before .before .before in
-    let a = b .args in
-    rw (c .before .enum-told2 .given .1, c .nothing2 .ensures) (λ p. piles-no-way (groundOf (a .im .now) (a .bytes .now) (a .from) (a .upto) (room (length (a .stack .now)))) p (b .pre .1 .0))
+returns-2 c = let a = c .before .before .before .before .before .before .before .before .args in
+    rw (c .before .enum-told2 .given .1, c .nothing2 .ensures) (λ p. piles-no-way (groundOf (a .im .now) (a .bytes .now) (a .from) (a .upto) (room (length (a .stack .now)))) p (c .before .before .before .before .before .before .before .before .pre .1 .0))
 
 returns-3 : tie.Need-returns-3
-returns-3 c =
-    let b = c .before .before .before .before .before .before .before .before .before .before in
-    let a = b .args in
-    rw (c .before .before .before .before .t .given .1, c .before .enum-told3 .given .1, c .nothing3 .ensures) (λ p. piles-no-way (groundOf (a .im .now) (a .bytes .now) (a .from) (a .upto) (room (length (a .stack .now)))) p (b .pre .1 .0))
+returns-3 c = let a = c .before .before .before .before .before .before .before .before .before .before .before .args in
+    rw (c .before .before .before .before .t .given .1, c .before .enum-told3 .given .1, c .nothing3 .ensures) (λ p. piles-no-way (groundOf (a .im .now) (a .bytes .now) (a .from) (a .upto) (room (length (a .stack .now)))) p (c .before .before .before .before .before .before .before .before .before .before .before .pre .1 .0))
 
 same-length : tie.Need-same-length
 same-length c = search needs
 
 returns-4 : tie.Need-returns-4
-returns-4 c =
-    let b = c .before .before .before .before .before .before .before .before .before .before .before .before .before .before in
-    let a = b .args in
+returns-4 c = let a = c .before .before .before .before .before .before .before .before .before .before .before .before .before .before .before .args in
     rw (c .before .before .before .before .before .before .before .before .t .given .1, c .before .before .before .before .before .a .given .1) (λ p. place-alone (a .im .now) (a .bytes .now) (a .from) (a .upto) (room (length (a .stack .now))) p refl (c .before .before .push-at .ensures))
 
 same-length-2 : tie.Need-same-length-2
@@ -78,10 +72,8 @@ same-length-3 : tie.Need-same-length-3
 same-length-3 c = search needs
 
 returns-5 : tie.Need-returns-5
-returns-5 c =
-    let b = c .before .before .before .before .before .before .before .before .before .before .before .before .before .before in
-    let a = b .args in
-    rw (c .before .before .before .before .before .before .before .before .t2 .given .1) (λ p. one-way (a .im .now) (a .bytes .now) (a .from) (a .upto) (room (length (a .stack .now))) p (table (askedOf (c .before .before .before .before .before .before .before .before .t2 .given .0 .0) (c .before .before .before .before .before .before .before .before .t2 .given .0 .1 .0)) (a .s)) (c .before .before .before .before .take-table .ensures p))
+returns-5 c = let a = c .before .before .before .before .before .before .before .before .before .before .before .before .before .before .before .args in
+    rw (c .before .before .before .before .before .before .before .before .t2 .given .1) (λ p. one-way (a .im .now) (a .bytes .now) (a .from) (a .upto) (room (length (a .stack .now))) p (table (askedOf (c .before .before .before .before .before .before .before .before .t2 .given .0 .0) (c .before .before .before .before .before .before .before .before .t2 .given .0 .1 .0)) (madeOf (a .made) (stateOf (a .cells .now)))) (c .before .before .before .before .take-table .ensures p))
 
 pub take-target-spec : {M : Type 1} → statement M
 take-target-spec =

@@ -6,6 +6,7 @@ use Prim.Native.Nat.{_-_, _≤_}
 use native.Mathlib.Omega.{arith}
 use lib.ListN.{length}
 use borrow.Author.Needs.{needs}
+use Rattle.cells.specs.Cells.{stateOf}
 use Rattle.stack.proofs.Stacks.{push-stack}
 use Rattle.stack.proofs.ValidLaws.{empty-stack}
 use Rattle.stack.specs.Stack.{Stack}
@@ -13,19 +14,19 @@ use Rattle.stack_bench.proofs.fill.Statement.{statement}
 use Rattle.stack_bench.proofs.fill.Tie as tie
 
 abbrev Inv-loop : tie.InvT-loop
-Inv-loop words₀ down s n₀ i₀ words n i = (i ≤ 3000) × (length words ≡ length words₀) × Stack words n
+Inv-loop words₀ down cells n₀ i₀ words n i = (i ≤ 3000) × (length words ≡ length words₀) × Stack words n
 
 abbrev μ-loop : tie.MeasureT-loop
-μ-loop words₀ down s n₀ i₀ words n i = 3000 - i
+μ-loop words₀ down cells n₀ i₀ words n i = 3000 - i
 
 loop-holds : tie.Need-loop-holds Inv-loop μ-loop
-loop-holds c = (omega arith, refl, empty-stack (c .before .args .words .now))
+loop-holds c = (omega arith, refl, empty-stack (c .before .before .args .words .now))
 
 address-requires : tie.Need-address-requires Inv-loop μ-loop
 address-requires c κs = search needs
 
 push-requires : tie.Need-push-requires Inv-loop μ-loop
-push-requires c κs = search needs
+push-requires c κs = (c .before .before .before .loop .inv .2, c .before .before .before .before .before .before .pre)
 
 add-i : tie.Need-add-i Inv-loop μ-loop
 add-i c = search needs
@@ -36,8 +37,9 @@ loop-less c = search needs
 loop-again : tie.Need-loop-again Inv-loop μ-loop
 loop-again c =
     let q = c .before .before .before .before .before .before .loop in
+    let a = c .before .before .before .before .before .before .before .before .before .args in
     let r = c .before .before .push in
-    (omega arith, r .kept .0 ∙ q .inv .1, push-stack (q .words) (q .n) _ (c .before .before .before .before .before .before .before .before .args .s) (q .inv .2) true (r .result) (r .last .0) (r .ensures))
+    (omega arith, r .kept .0 ∙ q .inv .1, push-stack (q .words) (q .n) _ (stateOf (a .cells .now)) (q .inv .2) true (r .result) (r .last .0) (r .ensures))
 
 same-length : tie.Need-same-length Inv-loop μ-loop
 same-length c = search needs

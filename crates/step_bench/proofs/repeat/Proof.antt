@@ -1,4 +1,5 @@
 -- `step_bench::repeat` meets its contract. Assumes nothing.
+use Rattle.runs.proofs.Carrying.{cells-own}
 use Prim.Native.Nat.{_≤_, _-_}
 use borrow.Author.Needs.{needs}
 use Rattle.step_bench.proofs.repeat.Statement.{statement}
@@ -13,11 +14,20 @@ abbrev μ-loop : tie.MeasureT-loop
 loop-holds : tie.Need-loop-holds Inv-loop μ-loop
 loop-holds c = search needs
 
+slice-aggregate-put-state : tie.Need-slice-aggregate-put-state Inv-loop μ-loop
+slice-aggregate-put-state c = search needs
+
 new-requires : tie.Need-new-requires Inv-loop μ-loop
 new-requires c κs = search needs
 
+put-state-requires : tie.Need-put-state-requires Inv-loop μ-loop
+put-state-requires c κs = search needs
+
+slice-aggregate-run : tie.Need-slice-aggregate-run Inv-loop μ-loop
+slice-aggregate-run c = search needs
+
 run-requires : tie.Need-run-requires Inv-loop μ-loop
-run-requires c κs = search needs
+run-requires c κs = (c .before .before .before .before .before .before .before .before .before .pre, cells-own (c .before .before .put-state .ensures))
 
 add-k : tie.Need-add-k Inv-loop μ-loop
 add-k c = search needs
@@ -38,7 +48,10 @@ repeat-spec =
     Inv-loop
     μ-loop
     loop-holds
+    slice-aggregate-put-state
     new-requires
+    put-state-requires
+    slice-aggregate-run
     run-requires
     add-k
     loop-less

@@ -4,6 +4,8 @@ use mathlib.Core.List.{[]}
 use mathlib.Core.Path.{sym, _∙_}
 use native.Mathlib.Omega.{arith}
 use lib.ListN.{length}
+use Rattle.cells.proofs.CellLaws.{cells-state}
+use Rattle.runs.proofs.Carrying.{cells-own}
 use borrow.Author.Needs.{needs}
 use Rattle.places.specs.declared.MaybeAddress.the-variants.{Nowhere}
 use Rattle.image.proofs.SoundTables.{laid, tables-of-sound}
@@ -27,11 +29,20 @@ code-words-requires c κs = laid (c .before .before .before .before .before .bef
 clear-requires : tie.Need-clear-requires
 clear-requires c κs = search needs
 
+slice-aggregate-put-state : tie.Need-slice-aggregate-put-state
+slice-aggregate-put-state c = search needs
+
 new-with-base-requires : tie.Need-new-with-base-requires
 new-with-base-requires c κs = search needs
 
+put-state-requires : tie.Need-put-state-requires
+put-state-requires c κs = search needs
+
+slice-aggregate-push-keys : tie.Need-slice-aggregate-push-keys
+slice-aggregate-push-keys c = search needs
+
 push-keys-requires : tie.Need-push-keys-requires
-push-keys-requires c κs = (tables-of-sound (c .before .before .before .before .before .before .before .before .before .before .before .before .before .before .before .before .args .im .now) (length (c .before .before .before .before .before .before .before .before .before .before .before .before .before .before .before .before .args .«data» .now)) (image-sound (given (c .before .before .before .before .before .before .before .before .before .before .before .before .before .before .before .before .args .im .now) (c .before .before .before .before .before .before .before .before .before .before .before .before .before .before .before .before .args .«data» .now) (placesOf (c .before .before .before .before .before .before .before .before .before .before .before .before .before .before .before .before .args .starts .now)) (c .before .before .before .before .before .before .before .before .before .before .before .before .before .before .before .before .args .two) (c .before .before .before .before .before .before .before .before .before .before .before .before .before .before .before .before .args .thirteen) (record { section = 0; address = 0 }) Nowhere) (c .before .before .before .before .before .before .before .before .before .before .before .before .before .before .before .before .args .map .now) (record { stack = c .before .before .before .before .before .before .before .before .before .before .before .before .before .before .before .before .args .stack .now; entries = [] }) (judged-fine (given (c .before .before .before .before .before .before .before .before .before .before .before .before .before .before .before .before .args .im .now) (c .before .before .before .before .before .before .before .before .before .before .before .before .before .before .before .before .args .«data» .now) (placesOf (c .before .before .before .before .before .before .before .before .before .before .before .before .before .before .before .before .args .starts .now)) (c .before .before .before .before .before .before .before .before .before .before .before .before .before .before .before .before .args .two) (c .before .before .before .before .before .before .before .before .before .before .before .before .before .before .before .before .args .thirteen) (record { section = 0; address = 0 }) Nowhere) (c .before .before .before .before .before .before .before .before .before .before .before .before .before .before .before .before .args .map .now) (c .before .before .before .before .before .before .before .before .before .judge .result) (c .before .before .before .before .before .before .before .before .before .judge .ensures (c .before .before .before .before .before .before .before .before .before .before .before .before .before .before .before .before .args .two) (c .before .before .before .before .before .before .before .before .before .before .before .before .before .before .before .before .args .thirteen) (record { section = 0; address = 0 }) Nowhere) (sym (c .before .before .before .before .before .before .before .before .is-done .ensures) ∙ c .before .before .before .before .before .before .before .if1 .taken))), empty-stack _, omega arith)
+push-keys-requires c κs = (tables-of-sound (c .before .before .before .before .before .before .before .before .before .before .before .before .before .before .before .before .before .before .before .before .args .im .now) (length (c .before .before .before .before .before .before .before .before .before .before .before .before .before .before .before .before .before .before .before .before .args .«data» .now)) (image-sound (given (c .before .before .before .before .before .before .before .before .before .before .before .before .before .before .before .before .before .before .before .before .args .im .now) (c .before .before .before .before .before .before .before .before .before .before .before .before .before .before .before .before .before .before .before .before .args .«data» .now) (placesOf (c .before .before .before .before .before .before .before .before .before .before .before .before .before .before .before .before .before .before .before .before .args .starts .now)) (c .before .before .before .before .before .before .before .before .before .before .before .before .before .before .before .before .before .before .before .before .args .two) (c .before .before .before .before .before .before .before .before .before .before .before .before .before .before .before .before .before .before .before .before .args .thirteen) (record { section = 0; address = 0 }) Nowhere) (c .before .before .before .before .before .before .before .before .before .before .before .before .before .before .before .before .before .before .before .before .args .map .now) (record { stack = c .before .before .before .before .before .before .before .before .before .before .before .before .before .before .before .before .before .before .before .before .args .stack .now; entries = [] }) (judged-fine (given (c .before .before .before .before .before .before .before .before .before .before .before .before .before .before .before .before .before .before .before .before .args .im .now) (c .before .before .before .before .before .before .before .before .before .before .before .before .before .before .before .before .before .before .before .before .args .«data» .now) (placesOf (c .before .before .before .before .before .before .before .before .before .before .before .before .before .before .before .before .before .before .before .before .args .starts .now)) (c .before .before .before .before .before .before .before .before .before .before .before .before .before .before .before .before .before .before .before .before .args .two) (c .before .before .before .before .before .before .before .before .before .before .before .before .before .before .before .before .before .before .before .before .args .thirteen) (record { section = 0; address = 0 }) Nowhere) (c .before .before .before .before .before .before .before .before .before .before .before .before .before .before .before .before .before .before .before .before .args .map .now) (c .before .before .before .before .before .before .before .before .before .before .before .before .before .judge .result) (c .before .before .before .before .before .before .before .before .before .before .before .before .before .judge .ensures (c .before .before .before .before .before .before .before .before .before .before .before .before .before .before .before .before .before .before .before .before .args .two) (c .before .before .before .before .before .before .before .before .before .before .before .before .before .before .before .before .before .before .before .before .args .thirteen) (record { section = 0; address = 0 }) Nowhere) (sym (c .before .before .before .before .before .before .before .before .before .before .before .before .is-done .ensures) ∙ c .before .before .before .before .before .before .before .before .before .before .before .if1 .taken))), empty-stack _, omega arith, cells-own (c .before .before .before .put-state .ensures))
 
 same-length : tie.Need-same-length
 same-length c = search needs
@@ -40,7 +51,7 @@ same-length-2 : tie.Need-same-length-2
 same-length-2 c = search needs
 
 returns : tie.Need-returns
-returns c = rw (c .before .before .before .before .before .before .before .clear .ensures, c .before .before .before .before .before .before .before .before .code-words .ensures) (begins-done (c .before .before .before .before .before .before .before .before .before .before .before .before .before .before .before .before .before .before .before .args .im .now) (c .before .before .before .before .before .before .before .before .before .before .before .before .before .before .before .before .before .before .before .args .«data» .now) (c .before .before .before .before .before .before .before .before .before .before .before .before .before .before .before .before .before .before .before .args .starts .now) (c .before .before .before .before .before .before .before .before .before .before .before .before .before .before .before .before .before .before .before .args .two) (c .before .before .before .before .before .before .before .before .before .before .before .before .before .before .before .before .before .before .before .args .thirteen) (c .before .before .before .before .before .before .before .before .before .before .before .before .before .before .before .before .before .before .before .args .map .now) (c .before .before .before .before .before .before .before .before .before .before .before .before .before .before .before .before .before .before .before .args .stack .now) (c .before .before .before .before .before .before .before .before .before .before .before .before .judge .result) (c .before .before .before .before .before .before .before .before .before .before .before .before .judge .ensures) (sym (c .before .before .before .before .before .before .before .before .before .before .before .is-done .ensures) ∙ c .before .before .before .before .before .before .before .before .before .before .if1 .taken) (rw (c .before .before .before .before .new-with-base .ensures) at (c .before .before .push-keys .ensures .piles)))
+returns c = rw (c .before .before .before .before .before .before .before .before .before .before .before .clear .ensures, c .before .before .before .before .before .before .before .before .before .before .before .before .code-words .ensures) (begins-done (c .before .before .before .before .before .before .before .before .before .before .before .before .before .before .before .before .before .before .before .before .before .before .before .args .im .now) (c .before .before .before .before .before .before .before .before .before .before .before .before .before .before .before .before .before .before .before .before .before .before .before .args .«data» .now) (c .before .before .before .before .before .before .before .before .before .before .before .before .before .before .before .before .before .before .before .before .before .before .before .args .starts .now) (c .before .before .before .before .before .before .before .before .before .before .before .before .before .before .before .before .before .before .before .before .before .before .before .args .two) (c .before .before .before .before .before .before .before .before .before .before .before .before .before .before .before .before .before .before .before .before .before .before .before .args .thirteen) (c .before .before .before .before .before .before .before .before .before .before .before .before .before .before .before .before .before .before .before .before .before .before .before .args .map .now) (c .before .before .before .before .before .before .before .before .before .before .before .before .before .before .before .before .before .before .before .before .before .before .before .args .stack .now) (c .before .before .before .before .before .before .before .before .before .before .before .before .before .before .before .before .judge .result) (c .before .before .before .before .before .before .before .before .before .before .before .before .before .before .before .before .judge .ensures) (sym (c .before .before .before .before .before .before .before .before .before .before .before .before .before .before .before .is-done .ensures) ∙ c .before .before .before .before .before .before .before .before .before .before .before .before .before .before .if1 .taken) (rw (cells-state (c .before .before .before .before .before .before .put-state .ensures), c .before .before .before .before .before .before .before .new-with-base .ensures) at (c .before .before .push-keys .ensures .piles)))
 
 same-length-3 : tie.Need-same-length-3
 same-length-3 c = search needs
@@ -56,7 +67,10 @@ begin-spec =
     is-done-requires
     code-words-requires
     clear-requires
+    slice-aggregate-put-state
     new-with-base-requires
+    put-state-requires
+    slice-aggregate-push-keys
     push-keys-requires
     same-length
     same-length-2

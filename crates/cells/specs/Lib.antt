@@ -1,0 +1,2 @@
+-- A state in cells.
+pub mod Cells

@@ -1,0 +1,2 @@
+-- What a way makes of the state that it leaves with.
+pub mod Clones

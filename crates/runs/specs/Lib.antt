@@ -1,0 +1,2 @@
+-- What words do to a state in cells.
+pub mod Went
