@@ -20,7 +20,9 @@ abbrev μ-loop : tie.MeasureT-loop
 μ-loop im code cells₀ p₀ i₀ cells p i = length code - i
 
 loop-holds : tie.Need-loop-holds Inv-loop μ-loop
-loop-holds c = (run-starts (c .before .before .before .args .im .now) (c .before .before .before .args .code .now) (c .before .before .before .args .at) (stateOf (c .before .before .before .args .cells .now)), c .before .before .before .pre .1)
+loop-holds c =
+    let a = c .before .before .before .args in
+    (run-starts (a .im .now) (a .code .now) (a .at) (stateOf (a .cells .now)), c .before .before .before .pre .1)
 
 sub-loop : tie.Need-sub-loop Inv-loop μ-loop
 sub-loop c = search needs

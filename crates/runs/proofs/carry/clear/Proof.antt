@@ -47,25 +47,33 @@ forget-requires-4 : tie.Need-forget-requires-4
 forget-requires-4 c κs = (cells-own (c .before .before .before .before .forget3 .ensures), omega (arith, c .ra2 .ensures))
 
 returns : tie.Need-returns
-returns c = cells-as (rw (c .enum-told .given .1) (sym (cleared-none (c .before .before .before .args .w) (stateOf (c .before .before .before .args .cells .now))))) (c .before .before .before .pre)
+returns c =
+    let a = c .before .before .before .args in
+    cells-as (rw (c .enum-told .given .1) (sym (cleared-none (a .w) (stateOf (a .cells .now))))) (c .before .before .before .pre)
 
 same-length : tie.Need-same-length
 same-length c = search needs
 
 returns-2 : tie.Need-returns-2
-returns-2 c = cells-as (rw (c .before .before .before .rd .ensures, c .before .before .before .before .before .enum-told2 .given .1) (sym (cleared-d (c .before .before .before .before .before .before .before .before .args .w) (stateOf (c .before .before .before .before .before .before .before .before .args .cells .now))))) (c .before .before .forget .ensures)
+returns-2 c =
+    let a = c .before .before .before .before .before .before .before .before .args in
+    cells-as (rw (c .before .before .before .rd .ensures, c .before .before .before .before .before .enum-told2 .given .1) (sym (cleared-d (a .w) (stateOf (a .cells .now))))) (c .before .before .forget .ensures)
 
 same-length-2 : tie.Need-same-length-2
 same-length-2 c = search needs
 
 returns-3 : tie.Need-returns-3
-returns-3 c = cells-as (rw (c .before .before .before .ra .ensures, c .before .before .before .before .before .enum-told3 .given .1) (sym (cleared-a (c .before .before .before .before .before .before .before .before .args .w) (stateOf (c .before .before .before .before .before .before .before .before .args .cells .now))))) (c .before .before .forget2 .ensures)
+returns-3 c =
+    let a = c .before .before .before .before .before .before .before .before .args in
+    cells-as (rw (c .before .before .before .ra .ensures, c .before .before .before .before .before .enum-told3 .given .1) (sym (cleared-a (a .w) (stateOf (a .cells .now))))) (c .before .before .forget2 .ensures)
 
 same-length-3 : tie.Need-same-length-3
 same-length-3 c = search needs
 
 returns-4 : tie.Need-returns-4
-returns-4 c = cells-as (rw (cells-state (c .before .before .before .before .before .before .before .forget3 .ensures), c .before .before .before .before .before .before .before .before .rd2 .ensures, c .before .before .before .ra2 .ensures, c .before .before .before .before .before .before .before .before .before .before .enum-told4 .given .1) (sym (cleared-both (c .before .before .before .before .before .before .before .before .before .before .before .before .before .args .w) (stateOf (c .before .before .before .before .before .before .before .before .before .before .before .before .before .args .cells .now))))) (c .before .before .forget4 .ensures)
+returns-4 c =
+    let a = c .before .before .before .before .before .before .before .before .before .before .before .before .before .args in
+    cells-as (rw (cells-state (c .before .before .before .before .before .before .before .forget3 .ensures), c .before .before .before .before .before .before .before .before .rd2 .ensures, c .before .before .before .ra2 .ensures, c .before .before .before .before .before .before .before .before .before .before .enum-told4 .given .1) (sym (cleared-both (a .w) (stateOf (a .cells .now))))) (c .before .before .forget4 .ensures)
 
 pub clear-spec : {M : Type 1} → statement M
 clear-spec =

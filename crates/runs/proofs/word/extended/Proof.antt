@@ -166,49 +166,63 @@ same-length c = search needs
 
 returns : tie.Need-returns
 unfolding effectBy leaveBy wentOf doneOf
-returns c = went-by _ (effect-by (c .before .before .before .before .before .before .before .before .before .before .before .before .before .before .before .before .before .args .im .now) (c .before .before .before .before .before .before .before .before .before .before .before .before .before .before .before .before .before .args .at) (c .before .before .before .before .before .before .before .before .before .before .before .before .before .before .before .before .before .args .w) (stateOf (c .before .before .before .before .before .before .before .before .before .before .before .before .before .before .before .before .before .args .cells .now)) Or (sym (ap (λ (x : Decoded). x .op) (c .before .before .before .before .before .before .before .before .before .before .before .before .before .before .decode .ensures)) ∙ c .before .before .before .before .before .before .before .before .before .before .before .before .enum-told .given .1)) (record { leave = refl; cells = cells-as (rw (c .before .before .before .before .before .or .ensures, c .before .before .before .before .before .before .before .before .before .register-in .ensures, c .before .before .before .before .before .before .register-in2 .ensures, c .before .before .before .before .before .before .before .before .before .before .rd .ensures, c .before .before .before .before .before .before .before .rb .ensures, c .before .before .before .ra .ensures)) (c .before .before .set-register .ensures) })
+returns c =
+    let a = c .before .before .before .before .before .before .before .before .before .before .before .before .before .before .before .before .before .args in
+    went-by _ (effect-by (a .im .now) (a .at) (a .w) (stateOf (a .cells .now)) Or (sym (ap (λ (x : Decoded). x .op) (c .before .before .before .before .before .before .before .before .before .before .before .before .before .before .decode .ensures)) ∙ c .before .before .before .before .before .before .before .before .before .before .before .before .enum-told .given .1)) (record { leave = refl; cells = cells-as (rw (c .before .before .before .before .before .or .ensures, c .before .before .before .before .before .before .before .before .before .register-in .ensures, c .before .before .before .before .before .before .register-in2 .ensures, c .before .before .before .before .before .before .before .before .before .before .rd .ensures, c .before .before .before .before .before .before .before .rb .ensures, c .before .before .before .ra .ensures)) (c .before .before .set-register .ensures) })
 
 same-length-2 : tie.Need-same-length-2
 same-length-2 c = search needs
 
 returns-2 : tie.Need-returns-2
 unfolding effectBy leaveBy wentOf doneOf
-returns-2 c = went-by _ (effect-by (c .before .before .before .before .before .before .before .before .before .before .before .before .before .before .before .before .before .before .args .im .now) (c .before .before .before .before .before .before .before .before .before .before .before .before .before .before .before .before .before .before .args .at) (c .before .before .before .before .before .before .before .before .before .before .before .before .before .before .before .before .before .before .args .w) (stateOf (c .before .before .before .before .before .before .before .before .before .before .before .before .before .before .before .before .before .before .args .cells .now)) Add (sym (ap (λ (x : Decoded). x .op) (c .before .before .before .before .before .before .before .before .before .before .before .before .before .before .before .decode .ensures)) ∙ c .before .before .before .before .before .before .before .before .before .before .before .before .before .enum-told2 .given .1)) (record { leave = refl; cells = cells-as (rw (c .before .before .before .set-direct .ensures, c .before .before .before .before .add .ensures, c .before .before .before .before .before .before .before .before .before .before .register-in3 .ensures, c .before .before .before .before .before .before .before .register-in4 .ensures, c .before .before .before .before .before .rd2 .ensures, c .before .before .before .before .before .before .before .before .before .before .before .ra2 .ensures, c .before .before .before .before .before .before .before .before .rb2 .ensures)) (c .before .before .set-register2 .ensures) })
+returns-2 c =
+    let a = c .before .before .before .before .before .before .before .before .before .before .before .before .before .before .before .before .before .before .args in
+    went-by _ (effect-by (a .im .now) (a .at) (a .w) (stateOf (a .cells .now)) Add (sym (ap (λ (x : Decoded). x .op) (c .before .before .before .before .before .before .before .before .before .before .before .before .before .before .before .decode .ensures)) ∙ c .before .before .before .before .before .before .before .before .before .before .before .before .before .enum-told2 .given .1)) (record { leave = refl; cells = cells-as (rw (c .before .before .before .set-direct .ensures, c .before .before .before .before .add .ensures, c .before .before .before .before .before .before .before .before .before .before .register-in3 .ensures, c .before .before .before .before .before .before .before .register-in4 .ensures, c .before .before .before .before .before .rd2 .ensures, c .before .before .before .before .before .before .before .before .before .before .before .ra2 .ensures, c .before .before .before .before .before .before .before .before .rb2 .ensures)) (c .before .before .set-register2 .ensures) })
 
 same-length-3 : tie.Need-same-length-3
 same-length-3 c = search needs
 
 returns-3 : tie.Need-returns-3
 unfolding effectBy leaveBy wentOf doneOf
-returns-3 c = went-by _ (effect-by (c .before .before .before .before .before .before .before .before .before .before .before .before .args .im .now) (c .before .before .before .before .before .before .before .before .before .before .before .before .args .at) (c .before .before .before .before .before .before .before .before .before .before .before .before .args .w) (stateOf (c .before .before .before .before .before .before .before .before .before .before .before .before .args .cells .now)) Cmp (sym (ap (λ (x : Decoded). x .op) (c .before .before .before .before .before .before .before .before .before .decode .ensures)) ∙ c .before .before .before .before .before .before .before .enum-told3 .given .1)) (compare-went _ true (cells-as (rw (c .before .before .before .before .register-in5 .ensures, c .before .before .before .before .before .rb3 .ensures)) (c .before .before .compared .ensures)))
+returns-3 c =
+    let a = c .before .before .before .before .before .before .before .before .before .before .before .before .args in
+    went-by _ (effect-by (a .im .now) (a .at) (a .w) (stateOf (a .cells .now)) Cmp (sym (ap (λ (x : Decoded). x .op) (c .before .before .before .before .before .before .before .before .before .decode .ensures)) ∙ c .before .before .before .before .before .before .before .enum-told3 .given .1)) (compare-went _ true (cells-as (rw (c .before .before .before .before .register-in5 .ensures, c .before .before .before .before .before .rb3 .ensures)) (c .before .before .compared .ensures)))
 
 same-length-4 : tie.Need-same-length-4
 same-length-4 c = search needs
 
 returns-4 : tie.Need-returns-4
 unfolding effectBy leaveBy wentOf doneOf
-returns-4 c = went-by _ (effect-by (c .before .before .before .before .before .before .before .before .before .before .before .before .args .im .now) (c .before .before .before .before .before .before .before .before .before .before .before .before .args .at) (c .before .before .before .before .before .before .before .before .before .before .before .before .args .w) (stateOf (c .before .before .before .before .before .before .before .before .before .before .before .before .args .cells .now)) Cmpl (sym (ap (λ (x : Decoded). x .op) (c .before .before .before .before .before .before .before .before .before .decode .ensures)) ∙ c .before .before .before .before .before .before .before .enum-told4 .given .1)) (compare-went _ false (cells-as (rw (c .before .before .before .before .register-in6 .ensures, c .before .before .before .before .before .rb4 .ensures)) (c .before .before .compared2 .ensures)))
+returns-4 c =
+    let a = c .before .before .before .before .before .before .before .before .before .before .before .before .args in
+    went-by _ (effect-by (a .im .now) (a .at) (a .w) (stateOf (a .cells .now)) Cmpl (sym (ap (λ (x : Decoded). x .op) (c .before .before .before .before .before .before .before .before .before .decode .ensures)) ∙ c .before .before .before .before .before .before .before .enum-told4 .given .1)) (compare-went _ false (cells-as (rw (c .before .before .before .before .register-in6 .ensures, c .before .before .before .before .before .rb4 .ensures)) (c .before .before .compared2 .ensures)))
 
 same-length-5 : tie.Need-same-length-5
 same-length-5 c = search needs
 
 returns-5 : tie.Need-returns-5
 unfolding effectBy leaveBy wentOf doneOf
-returns-5 c = went-by _ (effect-by (c .before .before .before .before .before .before .before .before .before .before .before .before .before .before .before .before .before .before .before .args .im .now) (c .before .before .before .before .before .before .before .before .before .before .before .before .before .before .before .before .before .before .before .args .at) (c .before .before .before .before .before .before .before .before .before .before .before .before .before .before .before .before .before .before .before .args .w) (stateOf (c .before .before .before .before .before .before .before .before .before .before .before .before .before .before .before .before .before .before .before .args .cells .now)) Lwzx (sym (ap (λ (x : Decoded). x .op) (c .before .before .before .before .before .before .before .before .before .before .before .before .before .before .before .before .decode .ensures)) ∙ c .before .before .before .before .before .before .before .before .before .before .before .before .before .before .enum-told5 .given .1)) (record { leave = refl; cells = cells-as (rw (c .before .before .before .set-direct2 .ensures, c .before .before .before .before .lwzx .ensures, c .before .before .before .before .before .before .before .address .ensures, c .before .before .before .before .before .before .before .before .before .before .before .register-in7 .ensures, c .before .before .before .before .before .before .before .before .register-in8 .ensures, c .before .before .before .before .before .rd3 .ensures, c .before .before .before .before .before .before .before .before .before .before .before .before .ra3 .ensures, c .before .before .before .before .before .before .before .before .before .rb5 .ensures)) (c .before .before .set-register3 .ensures) })
+returns-5 c =
+    let a = c .before .before .before .before .before .before .before .before .before .before .before .before .before .before .before .before .before .before .before .args in
+    went-by _ (effect-by (a .im .now) (a .at) (a .w) (stateOf (a .cells .now)) Lwzx (sym (ap (λ (x : Decoded). x .op) (c .before .before .before .before .before .before .before .before .before .before .before .before .before .before .before .before .decode .ensures)) ∙ c .before .before .before .before .before .before .before .before .before .before .before .before .before .before .enum-told5 .given .1)) (record { leave = refl; cells = cells-as (rw (c .before .before .before .set-direct2 .ensures, c .before .before .before .before .lwzx .ensures, c .before .before .before .before .before .before .before .address .ensures, c .before .before .before .before .before .before .before .before .before .before .before .register-in7 .ensures, c .before .before .before .before .before .before .before .before .register-in8 .ensures, c .before .before .before .before .before .rd3 .ensures, c .before .before .before .before .before .before .before .before .before .before .before .before .ra3 .ensures, c .before .before .before .before .before .before .before .before .before .rb5 .ensures)) (c .before .before .set-register3 .ensures) })
 
 same-length-6 : tie.Need-same-length-6
 same-length-6 c = search needs
 
 returns-6 : tie.Need-returns-6
 unfolding effectBy leaveBy wentOf doneOf
-returns-6 c = went-by _ (effect-by (c .before .before .before .before .before .before .before .before .before .before .before .before .before .before .before .before .before .before .args .im .now) (c .before .before .before .before .before .before .before .before .before .before .before .before .before .before .before .before .before .before .args .at) (c .before .before .before .before .before .before .before .before .before .before .before .before .before .before .before .before .before .before .args .w) (stateOf (c .before .before .before .before .before .before .before .before .before .before .before .before .before .before .before .before .before .before .args .cells .now)) Subf (sym (ap (λ (x : Decoded). x .op) (c .before .before .before .before .before .before .before .before .before .before .before .before .before .before .before .decode .ensures)) ∙ c .before .before .before .before .before .before .before .before .before .before .before .before .before .enum-told6 .given .1)) (record { leave = refl; cells = cells-as (rw (c .before .before .before .set-direct3 .ensures, c .before .before .before .before .subf .ensures, c .before .before .before .before .before .before .before .before .before .before .register-in9 .ensures, c .before .before .before .before .before .before .before .register-in10 .ensures, c .before .before .before .before .before .rd4 .ensures, c .before .before .before .before .before .before .before .before .before .before .before .ra4 .ensures, c .before .before .before .before .before .before .before .before .rb6 .ensures)) (c .before .before .set-register4 .ensures) })
+returns-6 c =
+    let a = c .before .before .before .before .before .before .before .before .before .before .before .before .before .before .before .before .before .before .args in
+    went-by _ (effect-by (a .im .now) (a .at) (a .w) (stateOf (a .cells .now)) Subf (sym (ap (λ (x : Decoded). x .op) (c .before .before .before .before .before .before .before .before .before .before .before .before .before .before .before .decode .ensures)) ∙ c .before .before .before .before .before .before .before .before .before .before .before .before .before .enum-told6 .given .1)) (record { leave = refl; cells = cells-as (rw (c .before .before .before .set-direct3 .ensures, c .before .before .before .before .subf .ensures, c .before .before .before .before .before .before .before .before .before .before .register-in9 .ensures, c .before .before .before .before .before .before .before .register-in10 .ensures, c .before .before .before .before .before .rd4 .ensures, c .before .before .before .before .before .before .before .before .before .before .before .ra4 .ensures, c .before .before .before .before .before .before .before .before .rb6 .ensures)) (c .before .before .set-register4 .ensures) })
 
 same-length-7 : tie.Need-same-length-7
 same-length-7 c = search needs
 
 returns-7 : tie.Need-returns-7
 unfolding effectBy leaveBy wentOf doneOf
-returns-7 c = went-by _ (effect-by (c .before .before .before .before .before .before .before .before .before .args .im .now) (c .before .before .before .before .before .before .before .before .before .args .at) (c .before .before .before .before .before .before .before .before .before .args .w) (stateOf (c .before .before .before .before .before .before .before .before .before .args .cells .now)) Other (sym (ap (λ (x : Decoded). x .op) (c .before .before .before .before .before .before .decode .ensures)) ∙ c .before .before .before .before .enum-told7 .given .1)) (record { leave = refl; cells = cells-as (rw (c .before .before .before .before .before .before .decode .ensures)) (c .before .before .clear .ensures) })
+returns-7 c =
+    let a = c .before .before .before .before .before .before .before .before .before .args in
+    went-by _ (effect-by (a .im .now) (a .at) (a .w) (stateOf (a .cells .now)) Other (sym (ap (λ (x : Decoded). x .op) (c .before .before .before .before .before .before .decode .ensures)) ∙ c .before .before .before .before .enum-told7 .given .1)) (record { leave = refl; cells = cells-as (rw (c .before .before .before .before .before .before .decode .ensures)) (c .before .before .clear .ensures) })
 
 same-length-8 : tie.Need-same-length-8
 same-length-8 c = search needs

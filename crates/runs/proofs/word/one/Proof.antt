@@ -157,56 +157,72 @@ same-length c = search needs
 
 returns : tie.Need-returns
 unfolding rows first accessOf effectBy leaveBy wentOf doneOf
-returns c = went-by _ (effect-by (c .before .before .before .before .before .before .before .before .before .args .im .now) (c .before .before .before .before .before .before .before .before .before .args .at) (c .before .before .before .before .before .before .before .before .before .args .w) (stateOf (c .before .before .before .before .before .before .before .before .before .args .cells .now)) Cmpli (by-primary (c .before .before .before .before .before .before .before .before .before .args .w) 10 (sym (c .before .before .before .before .before .before .opcd .ensures) ∙ c .before .before .before .before .before .match .keys1) refl)) (compare-went _ false (cells-as (rw (c .before .before .before .before .uimm .ensures)) (c .before .before .compared .ensures)))
+returns c =
+    let a = c .before .before .before .before .before .before .before .before .before .args in
+    went-by _ (effect-by (a .im .now) (a .at) (a .w) (stateOf (a .cells .now)) Cmpli (by-primary (a .w) 10 (sym (c .before .before .before .before .before .before .opcd .ensures) ∙ c .before .before .before .before .before .match .keys1) refl)) (compare-went _ false (cells-as (rw (c .before .before .before .before .uimm .ensures)) (c .before .before .compared .ensures)))
 
 same-length-2 : tie.Need-same-length-2
 same-length-2 c = search needs
 
 returns-2 : tie.Need-returns-2
 unfolding rows first accessOf effectBy leaveBy wentOf doneOf
-returns-2 c = went-by _ (effect-by (c .before .before .before .before .before .before .before .before .before .args .im .now) (c .before .before .before .before .before .before .before .before .before .args .at) (c .before .before .before .before .before .before .before .before .before .args .w) (stateOf (c .before .before .before .before .before .before .before .before .before .args .cells .now)) Cmpi (by-primary (c .before .before .before .before .before .before .before .before .before .args .w) 11 (sym (c .before .before .before .before .before .before .opcd .ensures) ∙ c .before .before .before .before .before .match .keys2) refl)) (compare-went _ true (cells-as (rw (c .before .before .before .before .simm .ensures)) (c .before .before .compared2 .ensures)))
+returns-2 c =
+    let a = c .before .before .before .before .before .before .before .before .before .args in
+    went-by _ (effect-by (a .im .now) (a .at) (a .w) (stateOf (a .cells .now)) Cmpi (by-primary (a .w) 11 (sym (c .before .before .before .before .before .before .opcd .ensures) ∙ c .before .before .before .before .before .match .keys2) refl)) (compare-went _ true (cells-as (rw (c .before .before .before .before .simm .ensures)) (c .before .before .compared2 .ensures)))
 
 same-length-3 : tie.Need-same-length-3
 same-length-3 c = search needs
 
 returns-3 : tie.Need-returns-3
 unfolding rows first accessOf effectBy leaveBy wentOf doneOf
-returns-3 c = went-by _ (effect-by (c .before .before .before .before .before .before .before .before .before .before .before .before .before .before .args .im .now) (c .before .before .before .before .before .before .before .before .before .before .before .before .before .before .args .at) (c .before .before .before .before .before .before .before .before .before .before .before .before .before .before .args .w) (stateOf (c .before .before .before .before .before .before .before .before .before .before .before .before .before .before .args .cells .now)) Addi (by-primary (c .before .before .before .before .before .before .before .before .before .before .before .before .before .before .args .w) 14 (sym (c .before .before .before .before .before .before .before .before .before .before .before .opcd .ensures) ∙ c .before .before .before .before .before .before .before .before .before .before .match .keys3) refl)) (record { leave = refl; cells = cells-as (rw (c .before .before .before .before .before .addi .ensures, c .before .before .before .before .before .before .register-in .ensures, c .before .before .before .before .before .before .before .before .target-at .ensures, c .before .before .before .rd .ensures, c .before .before .before .before .before .before .before .before .before .ra .ensures)) (c .before .before .set-register .ensures) })
+returns-3 c =
+    let a = c .before .before .before .before .before .before .before .before .before .before .before .before .before .before .args in
+    went-by _ (effect-by (a .im .now) (a .at) (a .w) (stateOf (a .cells .now)) Addi (by-primary (a .w) 14 (sym (c .before .before .before .before .before .before .before .before .before .before .before .opcd .ensures) ∙ c .before .before .before .before .before .before .before .before .before .before .match .keys3) refl)) (record { leave = refl; cells = cells-as (rw (c .before .before .before .before .before .addi .ensures, c .before .before .before .before .before .before .register-in .ensures, c .before .before .before .before .before .before .before .before .target-at .ensures, c .before .before .before .rd .ensures, c .before .before .before .before .before .before .before .before .before .ra .ensures)) (c .before .before .set-register .ensures) })
 
 same-length-4 : tie.Need-same-length-4
 same-length-4 c = search needs
 
 returns-4 : tie.Need-returns-4
 unfolding rows first accessOf effectBy leaveBy wentOf doneOf
-returns-4 c = went-by _ (effect-by (c .before .before .before .before .before .before .before .before .before .before .before .before .before .before .args .im .now) (c .before .before .before .before .before .before .before .before .before .before .before .before .before .before .args .at) (c .before .before .before .before .before .before .before .before .before .before .before .before .before .before .args .w) (stateOf (c .before .before .before .before .before .before .before .before .before .before .before .before .before .before .args .cells .now)) Addis (by-primary (c .before .before .before .before .before .before .before .before .before .before .before .before .before .before .args .w) 15 (sym (c .before .before .before .before .before .before .before .before .before .before .before .opcd .ensures) ∙ c .before .before .before .before .before .before .before .before .before .before .match .keys4) refl)) (record { leave = refl; cells = cells-as (rw (c .before .before .before .addis .ensures, c .before .before .before .before .before .before .register-in2 .ensures, c .before .before .before .before .before .before .before .before .before .target-at2 .ensures, c .before .before .before .before .rd2 .ensures, c .before .before .before .before .before .before .before .ra2 .ensures)) (c .before .before .set-register2 .ensures) })
+returns-4 c =
+    let a = c .before .before .before .before .before .before .before .before .before .before .before .before .before .before .args in
+    went-by _ (effect-by (a .im .now) (a .at) (a .w) (stateOf (a .cells .now)) Addis (by-primary (a .w) 15 (sym (c .before .before .before .before .before .before .before .before .before .before .before .opcd .ensures) ∙ c .before .before .before .before .before .before .before .before .before .before .match .keys4) refl)) (record { leave = refl; cells = cells-as (rw (c .before .before .before .addis .ensures, c .before .before .before .before .before .before .register-in2 .ensures, c .before .before .before .before .before .before .before .before .before .target-at2 .ensures, c .before .before .before .before .rd2 .ensures, c .before .before .before .before .before .before .before .ra2 .ensures)) (c .before .before .set-register2 .ensures) })
 
 same-length-5 : tie.Need-same-length-5
 same-length-5 c = search needs
 
 returns-5 : tie.Need-returns-5
 unfolding rows first accessOf effectBy leaveBy wentOf doneOf
-returns-5 c = went-by _ (effect-by (c .before .before .before .before .before .before .args .im .now) (c .before .before .before .before .before .before .args .at) (c .before .before .before .before .before .before .args .w) (stateOf (c .before .before .before .before .before .before .args .cells .now)) Bc (by-primary (c .before .before .before .before .before .before .args .w) 16 (sym (c .before .before .before .opcd .ensures) ∙ c .before .before .match .keys5) refl)) (record { leave = c .leaves .ensures; cells = c .before .before .before .before .before .before .pre .1 })
+returns-5 c =
+    let a = c .before .before .before .before .before .before .args in
+    went-by _ (effect-by (a .im .now) (a .at) (a .w) (stateOf (a .cells .now)) Bc (by-primary (a .w) 16 (sym (c .before .before .before .opcd .ensures) ∙ c .before .before .match .keys5) refl)) (record { leave = c .leaves .ensures; cells = c .before .before .before .before .before .before .pre .1 })
 
 same-length-6 : tie.Need-same-length-6
 same-length-6 c = search needs
 
 returns-6 : tie.Need-returns-6
 unfolding rows first accessOf effectBy leaveBy wentOf doneOf
-returns-6 c = went-by _ (effect-by (c .before .before .before .before .before .before .args .im .now) (c .before .before .before .before .before .before .args .at) (c .before .before .before .before .before .before .args .w) (stateOf (c .before .before .before .before .before .before .args .cells .now)) B (by-primary (c .before .before .before .before .before .before .args .w) 18 (sym (c .before .before .before .opcd .ensures) ∙ c .before .before .match .keys6) refl)) (record { leave = c .leaves2 .ensures; cells = c .before .before .before .before .before .before .pre .1 })
+returns-6 c =
+    let a = c .before .before .before .before .before .before .args in
+    went-by _ (effect-by (a .im .now) (a .at) (a .w) (stateOf (a .cells .now)) B (by-primary (a .w) 18 (sym (c .before .before .before .opcd .ensures) ∙ c .before .before .match .keys6) refl)) (record { leave = c .leaves2 .ensures; cells = c .before .before .before .before .before .before .pre .1 })
 
 same-length-7 : tie.Need-same-length-7
 same-length-7 c = search needs
 
 returns-7 : tie.Need-returns-7
 unfolding rows first accessOf effectBy leaveBy wentOf doneOf
-returns-7 c = went-by _ (effect-by (c .before .before .before .before .before .before .before .before .before .before .before .before .before .before .before .before .before .before .args .im .now) (c .before .before .before .before .before .before .before .before .before .before .before .before .before .before .before .before .before .before .args .at) (c .before .before .before .before .before .before .before .before .before .before .before .before .before .before .before .before .before .before .args .w) (stateOf (c .before .before .before .before .before .before .before .before .before .before .before .before .before .before .before .before .before .before .args .cells .now)) Rlwinm (by-primary (c .before .before .before .before .before .before .before .before .before .before .before .before .before .before .before .before .before .before .args .w) 21 (sym (c .before .before .before .before .before .before .before .before .before .before .before .before .before .before .before .opcd .ensures) ∙ c .before .before .before .before .before .before .before .before .before .before .before .before .before .before .match .keys7) refl)) (record { leave = refl; cells = cells-as (rw (c .before .before .before .set-direct .ensures, c .before .before .before .before .rotate .ensures, c .before .before .before .before .before .before .before .before .mask-value .ensures, c .before .before .before .before .before .before .before .before .before .before .before .register-in3 .ensures, c .before .before .before .before .before .sh .ensures, c .before .before .before .before .before .before .before .before .before .before .mb .ensures, c .before .before .before .before .before .before .before .before .before .me .ensures, c .before .before .before .before .before .before .before .before .before .before .before .before .rd3 .ensures, c .before .before .before .before .before .before .ra3 .ensures, masked (c .before .before .before .before .before .before .before .before .before .before .before .before .before .before .before .before .before .before .args .w))) (c .before .before .set-register3 .ensures) })
+returns-7 c =
+    let a = c .before .before .before .before .before .before .before .before .before .before .before .before .before .before .before .before .before .before .args in
+    went-by _ (effect-by (a .im .now) (a .at) (a .w) (stateOf (a .cells .now)) Rlwinm (by-primary (a .w) 21 (sym (c .before .before .before .before .before .before .before .before .before .before .before .before .before .before .before .opcd .ensures) ∙ c .before .before .before .before .before .before .before .before .before .before .before .before .before .before .match .keys7) refl)) (record { leave = refl; cells = cells-as (rw (c .before .before .before .set-direct .ensures, c .before .before .before .before .rotate .ensures, c .before .before .before .before .before .before .before .before .mask-value .ensures, c .before .before .before .before .before .before .before .before .before .before .before .register-in3 .ensures, c .before .before .before .before .before .sh .ensures, c .before .before .before .before .before .before .before .before .before .before .mb .ensures, c .before .before .before .before .before .before .before .before .before .me .ensures, c .before .before .before .before .before .before .before .before .before .before .before .before .rd3 .ensures, c .before .before .before .before .before .before .ra3 .ensures, masked (a .w))) (c .before .before .set-register3 .ensures) })
 
 same-length-8 : tie.Need-same-length-8
 same-length-8 c = search needs
 
 returns-8 : tie.Need-returns-8
 unfolding rows first accessOf effectBy leaveBy wentOf doneOf
-returns-8 c = went-by _ (effect-by (c .before .before .before .before .before .before .before .before .before .before .before .before .before .before .args .im .now) (c .before .before .before .before .before .before .before .before .before .before .before .before .before .before .args .at) (c .before .before .before .before .before .before .before .before .before .before .before .before .before .before .args .w) (stateOf (c .before .before .before .before .before .before .before .before .before .before .before .before .before .before .args .cells .now)) Ori (by-primary (c .before .before .before .before .before .before .before .before .before .before .before .before .before .before .args .w) 24 (sym (c .before .before .before .before .before .before .before .before .before .before .before .opcd .ensures) ∙ c .before .before .before .before .before .before .before .before .before .before .match .keys8) refl)) (record { leave = refl; cells = cells-as (rw (c .before .before .before .before .before .ori .ensures, c .before .before .before .before .before .before .register-in4 .ensures, c .before .before .before .before .before .before .before .before .before .target-at3 .ensures, c .before .before .before .before .before .before .before .rd4 .ensures, c .before .before .before .ra4 .ensures)) (c .before .before .set-register4 .ensures) })
+returns-8 c =
+    let a = c .before .before .before .before .before .before .before .before .before .before .before .before .before .before .args in
+    went-by _ (effect-by (a .im .now) (a .at) (a .w) (stateOf (a .cells .now)) Ori (by-primary (a .w) 24 (sym (c .before .before .before .before .before .before .before .before .before .before .before .opcd .ensures) ∙ c .before .before .before .before .before .before .before .before .before .before .match .keys8) refl)) (record { leave = refl; cells = cells-as (rw (c .before .before .before .before .before .ori .ensures, c .before .before .before .before .before .before .register-in4 .ensures, c .before .before .before .before .before .before .before .before .before .target-at3 .ensures, c .before .before .before .before .before .before .before .rd4 .ensures, c .before .before .before .ra4 .ensures)) (c .before .before .set-register4 .ensures) })
 
 same-length-9 : tie.Need-same-length-9
 same-length-9 c = search needs
@@ -219,33 +235,45 @@ same-length-10 c = search needs
 
 returns-10 : tie.Need-returns-10
 unfolding rows first accessOf effectBy leaveBy wentOf doneOf
-returns-10 c = went-by _ (effect-by (c .before .before .before .before .before .before .before .before .before .args .im .now) (c .before .before .before .before .before .before .before .before .before .args .at) (c .before .before .before .before .before .before .before .before .before .args .w) (stateOf (c .before .before .before .before .before .before .before .before .before .args .cells .now)) Lwz (by-primary (c .before .before .before .before .before .before .before .before .before .args .w) 32 (sym (c .before .before .before .before .before .before .opcd .ensures) ∙ c .before .before .before .before .before .match .keys10) refl)) (record { leave = refl; cells = cells-as (rw (c .before .before .before .rd5 .ensures) (ap (λ (t : VM). withReg t (rD (c .before .before .before .before .before .before .before .before .before .args .w)) blank) (sym (same-reg (stateOf (c .before .before .before .before .before .before .before .before .before .args .cells .now)) (rA (c .before .before .before .before .before .before .before .before .before .args .w)))))) (c .before .before .forget .ensures) })
+returns-10 c =
+    let a = c .before .before .before .before .before .before .before .before .before .args in
+    went-by _ (effect-by (a .im .now) (a .at) (a .w) (stateOf (a .cells .now)) Lwz (by-primary (a .w) 32 (sym (c .before .before .before .before .before .before .opcd .ensures) ∙ c .before .before .before .before .before .match .keys10) refl)) (record { leave = refl; cells = cells-as (rw (c .before .before .before .rd5 .ensures) (ap (λ (t : VM). withReg t (rD (a .w)) blank) (sym (same-reg (stateOf (a .cells .now)) (rA (a .w)))))) (c .before .before .forget .ensures) })
 
 same-length-11 : tie.Need-same-length-11
 same-length-11 c = search needs
 
 returns-11 : tie.Need-returns-11
 unfolding rows first accessOf effectBy leaveBy wentOf doneOf
-returns-11 c = went-by _ (effect-by (c .before .before .before .before .before .before .before .before .before .args .im .now) (c .before .before .before .before .before .before .before .before .before .args .at) (c .before .before .before .before .before .before .before .before .before .args .w) (stateOf (c .before .before .before .before .before .before .before .before .before .args .cells .now)) Lbz (by-primary (c .before .before .before .before .before .before .before .before .before .args .w) 34 (sym (c .before .before .before .before .before .before .opcd .ensures) ∙ c .before .before .before .before .before .match .keys11) refl)) (record { leave = refl; cells = cells-as (rw (c .before .before .before .rd6 .ensures) (ap (λ (t : VM). withReg t (rD (c .before .before .before .before .before .before .before .before .before .args .w)) blank) (sym (same-reg (stateOf (c .before .before .before .before .before .before .before .before .before .args .cells .now)) (rA (c .before .before .before .before .before .before .before .before .before .args .w)))))) (c .before .before .forget2 .ensures) })
+returns-11 c =
+    let a = c .before .before .before .before .before .before .before .before .before .args in
+    went-by _ (effect-by (a .im .now) (a .at) (a .w) (stateOf (a .cells .now)) Lbz (by-primary (a .w) 34 (sym (c .before .before .before .before .before .before .opcd .ensures) ∙ c .before .before .before .before .before .match .keys11) refl)) (record { leave = refl; cells = cells-as (rw (c .before .before .before .rd6 .ensures) (ap (λ (t : VM). withReg t (rD (a .w)) blank) (sym (same-reg (stateOf (a .cells .now)) (rA (a .w)))))) (c .before .before .forget2 .ensures) })
 
 returns-12 : tie.Need-returns-12
 unfolding rows first accessOf effectBy leaveBy wentOf doneOf
-returns-12 c = went-by _ (effect-by (c .before .before .before .before .args .im .now) (c .before .before .before .before .args .at) (c .before .before .before .before .args .w) (stateOf (c .before .before .before .before .args .cells .now)) Stw (by-primary (c .before .before .before .before .args .w) 36 (sym (c .before .opcd .ensures) ∙ c .match .keys12) refl)) (record { leave = refl; cells = cells-as (sym (same-reg (stateOf (c .before .before .before .before .args .cells .now)) (rA (c .before .before .before .before .args .w)))) (c .before .before .before .before .pre .1) })
+returns-12 c =
+    let a = c .before .before .before .before .args in
+    went-by _ (effect-by (a .im .now) (a .at) (a .w) (stateOf (a .cells .now)) Stw (by-primary (a .w) 36 (sym (c .before .opcd .ensures) ∙ c .match .keys12) refl)) (record { leave = refl; cells = cells-as (sym (same-reg (stateOf (a .cells .now)) (rA (a .w)))) (c .before .before .before .before .pre .1) })
 
 returns-13 : tie.Need-returns-13
 unfolding rows first accessOf effectBy leaveBy wentOf doneOf
-returns-13 c = went-by _ (effect-by (c .before .before .before .before .args .im .now) (c .before .before .before .before .args .at) (c .before .before .before .before .args .w) (stateOf (c .before .before .before .before .args .cells .now)) Stb (by-primary (c .before .before .before .before .args .w) 38 (sym (c .before .opcd .ensures) ∙ c .match .keys13) refl)) (record { leave = refl; cells = cells-as (sym (same-reg (stateOf (c .before .before .before .before .args .cells .now)) (rA (c .before .before .before .before .args .w)))) (c .before .before .before .before .pre .1) })
+returns-13 c =
+    let a = c .before .before .before .before .args in
+    went-by _ (effect-by (a .im .now) (a .at) (a .w) (stateOf (a .cells .now)) Stb (by-primary (a .w) 38 (sym (c .before .opcd .ensures) ∙ c .match .keys13) refl)) (record { leave = refl; cells = cells-as (sym (same-reg (stateOf (a .cells .now)) (rA (a .w)))) (c .before .before .before .before .pre .1) })
 
 same-length-12 : tie.Need-same-length-12
 same-length-12 c = search needs
 
 returns-14 : tie.Need-returns-14
 unfolding rows first accessOf effectBy leaveBy wentOf doneOf
-returns-14 c = went-by _ (effect-by (c .before .before .before .before .before .before .before .before .before .args .im .now) (c .before .before .before .before .before .before .before .before .before .args .at) (c .before .before .before .before .before .before .before .before .before .args .w) (stateOf (c .before .before .before .before .before .before .before .before .before .args .cells .now)) Lhz (by-primary (c .before .before .before .before .before .before .before .before .before .args .w) 40 (sym (c .before .before .before .before .before .before .opcd .ensures) ∙ c .before .before .before .before .before .match .keys14) refl)) (record { leave = refl; cells = cells-as (rw (c .before .before .before .rd7 .ensures) (ap (λ (t : VM). withReg t (rD (c .before .before .before .before .before .before .before .before .before .args .w)) blank) (sym (same-reg (stateOf (c .before .before .before .before .before .before .before .before .before .args .cells .now)) (rA (c .before .before .before .before .before .before .before .before .before .args .w)))))) (c .before .before .forget3 .ensures) })
+returns-14 c =
+    let a = c .before .before .before .before .before .before .before .before .before .args in
+    went-by _ (effect-by (a .im .now) (a .at) (a .w) (stateOf (a .cells .now)) Lhz (by-primary (a .w) 40 (sym (c .before .before .before .before .before .before .opcd .ensures) ∙ c .before .before .before .before .before .match .keys14) refl)) (record { leave = refl; cells = cells-as (rw (c .before .before .before .rd7 .ensures) (ap (λ (t : VM). withReg t (rD (a .w)) blank) (sym (same-reg (stateOf (a .cells .now)) (rA (a .w)))))) (c .before .before .forget3 .ensures) })
 
 returns-15 : tie.Need-returns-15
 unfolding rows first accessOf effectBy leaveBy wentOf doneOf
-returns-15 c = went-by _ (effect-by (c .before .before .before .before .args .im .now) (c .before .before .before .before .args .at) (c .before .before .before .before .args .w) (stateOf (c .before .before .before .before .args .cells .now)) Sth (by-primary (c .before .before .before .before .args .w) 44 (sym (c .before .opcd .ensures) ∙ c .match .keys15) refl)) (record { leave = refl; cells = cells-as (sym (same-reg (stateOf (c .before .before .before .before .args .cells .now)) (rA (c .before .before .before .before .args .w)))) (c .before .before .before .before .pre .1) })
+returns-15 c =
+    let a = c .before .before .before .before .args in
+    went-by _ (effect-by (a .im .now) (a .at) (a .w) (stateOf (a .cells .now)) Sth (by-primary (a .w) 44 (sym (c .before .opcd .ensures) ∙ c .match .keys15) refl)) (record { leave = refl; cells = cells-as (sym (same-reg (stateOf (a .cells .now)) (rA (a .w)))) (c .before .before .before .before .pre .1) })
 
 same-length-13 : tie.Need-same-length-13
 same-length-13 c = search needs

@@ -24,13 +24,19 @@ loop-holds : tie.Need-loop-holds Inv-loop μ-loop
 loop-holds c = let a = c .before .before .before .before .args in (block-begins (a .im .now) (a .bytes .now) (a .from) (stateOf (a .cells .now)) (a .map .now) (c .before .before .before .before .pre .2), c .before .before .before .before .pre .3)
 
 data-from-requires : tie.Need-data-from-requires Inv-loop μ-loop
-data-from-requires c κs = (tables-of-sound (c .before .before .before .before .before .args .im .now) (length (c .before .before .before .before .before .args .bytes .now)) (c .before .before .before .before .before .pre .0), data-of-sound (c .before .before .before .before .before .args .im .now) (length (c .before .before .before .before .before .args .bytes .now)) (c .before .before .before .before .before .pre .0))
+data-from-requires c κs =
+    let a = c .before .before .before .before .before .args in
+    (tables-of-sound (a .im .now) (length (a .bytes .now)) (c .before .before .before .before .before .pre .0), data-of-sound (a .im .now) (length (a .bytes .now)) (c .before .before .before .before .before .pre .0))
 
 run-requires : tie.Need-run-requires Inv-loop μ-loop
-run-requires c κs = (tables-of-sound (c .before .before .before .before .before .before .before .args .im .now) (length (c .before .before .before .before .before .before .before .args .bytes .now)) (c .before .before .before .before .before .before .before .pre .0), c .before .before .loop .inv .1)
+run-requires c κs =
+    let a = c .before .before .before .before .before .before .before .args in
+    (tables-of-sound (a .im .now) (length (a .bytes .now)) (c .before .before .before .before .before .before .before .pre .0), c .before .before .loop .inv .1)
 
 word-number-requires : tie.Need-word-number-requires Inv-loop μ-loop
-word-number-requires c κs = (tables-of-sound (c .before .before .before .before .before .before .before .before .before .before .before .args .im .now) (length (c .before .before .before .before .before .before .before .before .before .before .before .args .bytes .now)) (c .before .before .before .before .before .before .before .before .before .before .before .pre .0), fine-place (c .before .before .before .before .before .before .before .before .before .before .before .args .im .now) (c .before .before .before .before .before .before .loop .p) (c .before .before .before .before .before .before .loop .inv .0 .word) .0)
+word-number-requires c κs =
+    let a = c .before .before .before .before .before .before .before .before .before .before .before .args in
+    (tables-of-sound (a .im .now) (length (a .bytes .now)) (c .before .before .before .before .before .before .before .before .before .before .before .pre .0), fine-place (a .im .now) (c .before .before .before .before .before .before .loop .p) (c .before .before .before .before .before .before .loop .inv .0 .word) .0)
 
 sub-many : tie.Need-sub-many Inv-loop μ-loop
 sub-many c = run-ahead (c .before .before .before .before .before .before .before .before .before .before .before .before .before .before .pre .0) (c .before .before .before .before .before .before .before .before .before .before .before .before .before .before .pre .1) (c .before .before .before .before .before .before .before .before .before .loop .inv .0) (rw (c .before .before .before .before .before .before .before .before .data-from .ensures .0) at ((halted (c .before .before .before .before .before .before .run .ensures))))
@@ -90,7 +96,9 @@ enum-known-q : tie.Need-enum-known-q Inv-loop μ-loop
 enum-known-q c = search needs
 
 is-new-requires : tie.Need-is-new-requires Inv-loop μ-loop
-is-new-requires c κs = tables-of-sound (c .before .before .before .before .before .before .before .before .before .before .before .before .before .before .before .before .before .before .before .before .before .before .before .before .before .args .im .now) (length (c .before .before .before .before .before .before .before .before .before .before .before .before .before .before .before .before .before .before .before .before .before .before .before .before .before .args .bytes .now)) (c .before .before .before .before .before .before .before .before .before .before .before .before .before .before .before .before .before .before .before .before .before .before .before .before .before .pre .0)
+is-new-requires c κs =
+    let a = c .before .before .before .before .before .before .before .before .before .before .before .before .before .before .before .before .before .before .before .before .before .before .before .before .before .args in
+    tables-of-sound (a .im .now) (length (a .bytes .now)) (c .before .before .before .before .before .before .before .before .before .before .before .before .before .before .before .before .before .before .before .before .before .before .before .before .before .pre .0)
 
 add-begun : tie.Need-add-begun Inv-loop μ-loop
 add-begun c = record { fits = omega (arith, block-few (c .before .before .before .before .before .before .before .before .before .before .before .before .before .before .before .before .before .before .before .before .before .before .before .before .before .before .before .pre .0) (c .before .before .before .before .before .before .before .before .before .before .before .before .before .before .before .before .before .before .before .before .before .before .before .before .before .before .before .pre .1) (c .before .before .before .before .before .before .before .before .before .before .before .before .before .before .before .before .before .before .before .before .before .before .loop .inv .0) .0) }

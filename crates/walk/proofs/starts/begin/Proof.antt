@@ -24,7 +24,9 @@ is-done-requires : tie.Need-is-done-requires
 is-done-requires c κs = search needs
 
 code-words-requires : tie.Need-code-words-requires
-code-words-requires c κs = laid (c .before .before .before .before .before .before .before .before .before .before .args .im .now) (tables-of-sound (c .before .before .before .before .before .before .before .before .before .before .args .im .now) (length (c .before .before .before .before .before .before .before .before .before .before .args .«data» .now)) (image-sound (given (c .before .before .before .before .before .before .before .before .before .before .args .im .now) (c .before .before .before .before .before .before .before .before .before .before .args .«data» .now) (placesOf (c .before .before .before .before .before .before .before .before .before .before .args .starts .now)) (c .before .before .before .before .before .before .before .before .before .before .args .two) (c .before .before .before .before .before .before .before .before .before .before .args .thirteen) (record { section = 0; address = 0 }) Nowhere) (c .before .before .before .before .before .before .before .before .before .before .args .map .now) (record { stack = c .before .before .before .before .before .before .before .before .before .before .args .stack .now; entries = [] }) (judged-fine (given (c .before .before .before .before .before .before .before .before .before .before .args .im .now) (c .before .before .before .before .before .before .before .before .before .before .args .«data» .now) (placesOf (c .before .before .before .before .before .before .before .before .before .before .args .starts .now)) (c .before .before .before .before .before .before .before .before .before .before .args .two) (c .before .before .before .before .before .before .before .before .before .before .args .thirteen) (record { section = 0; address = 0 }) Nowhere) (c .before .before .before .before .before .before .before .before .before .before .args .map .now) (c .before .before .before .judge .result) (c .before .before .before .judge .ensures (c .before .before .before .before .before .before .before .before .before .before .args .two) (c .before .before .before .before .before .before .before .before .before .before .args .thirteen) (record { section = 0; address = 0 }) Nowhere) (sym (c .before .before .is-done .ensures) ∙ c .before .if1 .taken))))
+code-words-requires c κs =
+    let a = c .before .before .before .before .before .before .before .before .before .before .args in
+    laid (a .im .now) (tables-of-sound (a .im .now) (length (a .«data» .now)) (image-sound (given (a .im .now) (a .«data» .now) (placesOf (a .starts .now)) (a .two) (a .thirteen) (record { section = 0; address = 0 }) Nowhere) (a .map .now) (record { stack = a .stack .now; entries = [] }) (judged-fine (given (a .im .now) (a .«data» .now) (placesOf (a .starts .now)) (a .two) (a .thirteen) (record { section = 0; address = 0 }) Nowhere) (a .map .now) (c .before .before .before .judge .result) (c .before .before .before .judge .ensures (a .two) (a .thirteen) (record { section = 0; address = 0 }) Nowhere) (sym (c .before .before .is-done .ensures) ∙ c .before .if1 .taken))))
 
 clear-requires : tie.Need-clear-requires
 clear-requires c κs = search needs
@@ -42,7 +44,9 @@ slice-aggregate-push-keys : tie.Need-slice-aggregate-push-keys
 slice-aggregate-push-keys c = search needs
 
 push-keys-requires : tie.Need-push-keys-requires
-push-keys-requires c κs = (tables-of-sound (c .before .before .before .before .before .before .before .before .before .before .before .before .before .before .before .before .before .before .before .before .args .im .now) (length (c .before .before .before .before .before .before .before .before .before .before .before .before .before .before .before .before .before .before .before .before .args .«data» .now)) (image-sound (given (c .before .before .before .before .before .before .before .before .before .before .before .before .before .before .before .before .before .before .before .before .args .im .now) (c .before .before .before .before .before .before .before .before .before .before .before .before .before .before .before .before .before .before .before .before .args .«data» .now) (placesOf (c .before .before .before .before .before .before .before .before .before .before .before .before .before .before .before .before .before .before .before .before .args .starts .now)) (c .before .before .before .before .before .before .before .before .before .before .before .before .before .before .before .before .before .before .before .before .args .two) (c .before .before .before .before .before .before .before .before .before .before .before .before .before .before .before .before .before .before .before .before .args .thirteen) (record { section = 0; address = 0 }) Nowhere) (c .before .before .before .before .before .before .before .before .before .before .before .before .before .before .before .before .before .before .before .before .args .map .now) (record { stack = c .before .before .before .before .before .before .before .before .before .before .before .before .before .before .before .before .before .before .before .before .args .stack .now; entries = [] }) (judged-fine (given (c .before .before .before .before .before .before .before .before .before .before .before .before .before .before .before .before .before .before .before .before .args .im .now) (c .before .before .before .before .before .before .before .before .before .before .before .before .before .before .before .before .before .before .before .before .args .«data» .now) (placesOf (c .before .before .before .before .before .before .before .before .before .before .before .before .before .before .before .before .before .before .before .before .args .starts .now)) (c .before .before .before .before .before .before .before .before .before .before .before .before .before .before .before .before .before .before .before .before .args .two) (c .before .before .before .before .before .before .before .before .before .before .before .before .before .before .before .before .before .before .before .before .args .thirteen) (record { section = 0; address = 0 }) Nowhere) (c .before .before .before .before .before .before .before .before .before .before .before .before .before .before .before .before .before .before .before .before .args .map .now) (c .before .before .before .before .before .before .before .before .before .before .before .before .before .judge .result) (c .before .before .before .before .before .before .before .before .before .before .before .before .before .judge .ensures (c .before .before .before .before .before .before .before .before .before .before .before .before .before .before .before .before .before .before .before .before .args .two) (c .before .before .before .before .before .before .before .before .before .before .before .before .before .before .before .before .before .before .before .before .args .thirteen) (record { section = 0; address = 0 }) Nowhere) (sym (c .before .before .before .before .before .before .before .before .before .before .before .before .is-done .ensures) ∙ c .before .before .before .before .before .before .before .before .before .before .before .if1 .taken))), empty-stack _, omega arith, cells-own (c .before .before .before .put-state .ensures))
+push-keys-requires c κs =
+    let a = c .before .before .before .before .before .before .before .before .before .before .before .before .before .before .before .before .before .before .before .before .args in
+    (tables-of-sound (a .im .now) (length (a .«data» .now)) (image-sound (given (a .im .now) (a .«data» .now) (placesOf (a .starts .now)) (a .two) (a .thirteen) (record { section = 0; address = 0 }) Nowhere) (a .map .now) (record { stack = a .stack .now; entries = [] }) (judged-fine (given (a .im .now) (a .«data» .now) (placesOf (a .starts .now)) (a .two) (a .thirteen) (record { section = 0; address = 0 }) Nowhere) (a .map .now) (c .before .before .before .before .before .before .before .before .before .before .before .before .before .judge .result) (c .before .before .before .before .before .before .before .before .before .before .before .before .before .judge .ensures (a .two) (a .thirteen) (record { section = 0; address = 0 }) Nowhere) (sym (c .before .before .before .before .before .before .before .before .before .before .before .before .is-done .ensures) ∙ c .before .before .before .before .before .before .before .before .before .before .before .if1 .taken))), empty-stack _, omega arith, cells-own (c .before .before .before .put-state .ensures))
 
 same-length : tie.Need-same-length
 same-length c = search needs
@@ -51,13 +55,17 @@ same-length-2 : tie.Need-same-length-2
 same-length-2 c = search needs
 
 returns : tie.Need-returns
-returns c = rw (c .before .before .before .before .before .before .before .before .before .before .before .clear .ensures, c .before .before .before .before .before .before .before .before .before .before .before .before .code-words .ensures) (begins-done (c .before .before .before .before .before .before .before .before .before .before .before .before .before .before .before .before .before .before .before .before .before .before .before .args .im .now) (c .before .before .before .before .before .before .before .before .before .before .before .before .before .before .before .before .before .before .before .before .before .before .before .args .«data» .now) (c .before .before .before .before .before .before .before .before .before .before .before .before .before .before .before .before .before .before .before .before .before .before .before .args .starts .now) (c .before .before .before .before .before .before .before .before .before .before .before .before .before .before .before .before .before .before .before .before .before .before .before .args .two) (c .before .before .before .before .before .before .before .before .before .before .before .before .before .before .before .before .before .before .before .before .before .before .before .args .thirteen) (c .before .before .before .before .before .before .before .before .before .before .before .before .before .before .before .before .before .before .before .before .before .before .before .args .map .now) (c .before .before .before .before .before .before .before .before .before .before .before .before .before .before .before .before .before .before .before .before .before .before .before .args .stack .now) (c .before .before .before .before .before .before .before .before .before .before .before .before .before .before .before .before .judge .result) (c .before .before .before .before .before .before .before .before .before .before .before .before .before .before .before .before .judge .ensures) (sym (c .before .before .before .before .before .before .before .before .before .before .before .before .before .before .before .is-done .ensures) ∙ c .before .before .before .before .before .before .before .before .before .before .before .before .before .before .if1 .taken) (rw (cells-state (c .before .before .before .before .before .before .put-state .ensures), c .before .before .before .before .before .before .before .new-with-base .ensures) at (c .before .before .push-keys .ensures .piles)))
+returns c =
+    let a = c .before .before .before .before .before .before .before .before .before .before .before .before .before .before .before .before .before .before .before .before .before .before .before .args in
+    rw (c .before .before .before .before .before .before .before .before .before .before .before .clear .ensures, c .before .before .before .before .before .before .before .before .before .before .before .before .code-words .ensures) (begins-done (a .im .now) (a .«data» .now) (a .starts .now) (a .two) (a .thirteen) (a .map .now) (a .stack .now) (c .before .before .before .before .before .before .before .before .before .before .before .before .before .before .before .before .judge .result) (c .before .before .before .before .before .before .before .before .before .before .before .before .before .before .before .before .judge .ensures) (sym (c .before .before .before .before .before .before .before .before .before .before .before .before .before .before .before .is-done .ensures) ∙ c .before .before .before .before .before .before .before .before .before .before .before .before .before .before .if1 .taken) (rw (cells-state (c .before .before .before .before .before .before .put-state .ensures), c .before .before .before .before .before .before .before .new-with-base .ensures) at (c .before .before .push-keys .ensures .piles)))
 
 same-length-3 : tie.Need-same-length-3
 same-length-3 c = search needs
 
 returns-2 : tie.Need-returns-2
-returns-2 c = begins-refused (c .before .before .before .before .before .before .before .before .before .args .im .now) (c .before .before .before .before .before .before .before .before .before .args .«data» .now) (c .before .before .before .before .before .before .before .before .before .args .starts .now) (c .before .before .before .before .before .before .before .before .before .args .two) (c .before .before .before .before .before .before .before .before .before .args .thirteen) (c .before .before .before .before .before .before .before .before .before .args .map .now) (c .before .before .before .before .before .before .before .before .before .args .stack .now) (c .before .before .judge .result) (c .before .before .judge .ensures) (sym (c .before .is-done .ensures) ∙ c .if1 .left)
+returns-2 c =
+    let a = c .before .before .before .before .before .before .before .before .before .args in
+    begins-refused (a .im .now) (a .«data» .now) (a .starts .now) (a .two) (a .thirteen) (a .map .now) (a .stack .now) (c .before .before .judge .result) (c .before .before .judge .ensures) (sym (c .before .is-done .ensures) ∙ c .if1 .left)
 
 pub begin-spec : {M : Type 1} → statement M
 begin-spec =

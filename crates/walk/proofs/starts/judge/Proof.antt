@@ -22,22 +22,32 @@ enum-told-2 : tie.Need-enum-told-2
 enum-told-2 c = search needs
 
 code-words-requires : tie.Need-code-words-requires
-code-words-requires c κs = laid (c .before .before .before .before .before .before .before .args .im .now) (tables-of-sound (c .before .before .before .before .before .before .before .args .im .now) (length (c .before .before .before .before .before .before .before .args .«data» .now)) (judged-sound (c .before .before .before .before .before .before .before .args .im .now) (length (c .before .before .before .before .before .before .before .args .«data» .now)) (sym (c .before .before .check-image .ensures) ∙ c .enum-told2 .given .1)))
+code-words-requires c κs =
+    let a = c .before .before .before .before .before .before .before .args in
+    laid (a .im .now) (tables-of-sound (a .im .now) (length (a .«data» .now)) (judged-sound (a .im .now) (length (a .«data» .now)) (sym (c .before .before .check-image .ensures) ∙ c .enum-told2 .given .1)))
 
 has-room-requires : tie.Need-has-room-requires
 has-room-requires c κs = search needs
 
 judge-starts-requires : tie.Need-judge-starts-requires
-judge-starts-requires c κs = tables-of-sound (c .before .before .before .before .before .before .before .before .before .before .args .im .now) (length (c .before .before .before .before .before .before .before .before .before .before .args .«data» .now)) (judged-sound (c .before .before .before .before .before .before .before .before .before .before .args .im .now) (length (c .before .before .before .before .before .before .before .before .before .before .args .«data» .now)) (sym (c .before .before .before .before .before .check-image .ensures) ∙ c .before .before .before .enum-told2 .given .1))
+judge-starts-requires c κs =
+    let a = c .before .before .before .before .before .before .before .before .before .before .args in
+    tables-of-sound (a .im .now) (length (a .«data» .now)) (judged-sound (a .im .now) (length (a .«data» .now)) (sym (c .before .before .before .before .before .check-image .ensures) ∙ c .before .before .before .enum-told2 .given .1))
 
 returns : tie.Need-returns
-returns c = λ two thirteen from upto. c .judge-starts .ensures ∙ sym (judges-starts (given (c .before .before .before .before .before .before .before .before .before .before .before .args .im .now) (c .before .before .before .before .before .before .before .before .before .before .before .args .«data» .now) (placesOf (c .before .before .before .before .before .before .before .before .before .before .before .args .starts .now)) two thirteen from upto) (c .before .before .before .before .before .before .before .before .before .before .before .args .map .now) (judged-sound (c .before .before .before .before .before .before .before .before .before .before .before .args .im .now) (length (c .before .before .before .before .before .before .before .before .before .before .before .args .«data» .now)) (sym (c .before .before .before .before .before .before .check-image .ensures) ∙ c .before .before .before .before .enum-told2 .given .1)) (rw (c .before .before .before .code-words .ensures) at (sym (c .before .before .has-room .ensures) ∙ c .before .if1 .taken)))
+returns c =
+    let a = c .before .before .before .before .before .before .before .before .before .before .before .args in
+    λ two thirteen from upto. c .judge-starts .ensures ∙ sym (judges-starts (given (a .im .now) (a .«data» .now) (placesOf (a .starts .now)) two thirteen from upto) (a .map .now) (judged-sound (a .im .now) (length (a .«data» .now)) (sym (c .before .before .before .before .before .before .check-image .ensures) ∙ c .before .before .before .before .enum-told2 .given .1)) (rw (c .before .before .before .code-words .ensures) at (sym (c .before .before .has-room .ensures) ∙ c .before .if1 .taken)))
 
 returns-2 : tie.Need-returns-2
-returns-2 c = λ two thirteen from upto. sym (judged-1 (given (c .before .before .before .before .before .before .before .args .im .now) (c .before .before .before .before .before .before .before .args .«data» .now) (placesOf (c .before .before .before .before .before .before .before .args .starts .now)) two thirteen from upto) (c .before .before .before .before .before .before .before .args .map .now) (judged-broken (c .before .before .before .before .before .before .before .args .im .now) (length (c .before .before .before .before .before .before .before .args .«data» .now)) (sym (c .before .before .check-image .ensures) ∙ c .enum-told .given .1)))
+returns-2 c =
+    let a = c .before .before .before .before .before .before .before .args in
+    λ two thirteen from upto. sym (judged-1 (given (a .im .now) (a .«data» .now) (placesOf (a .starts .now)) two thirteen from upto) (a .map .now) (judged-broken (a .im .now) (length (a .«data» .now)) (sym (c .before .before .check-image .ensures) ∙ c .enum-told .given .1)))
 
 returns-3 : tie.Need-returns-3
-returns-3 c = λ two thirteen from upto. sym (judged-4 (given (c .before .before .before .before .before .before .before .before .before .before .args .im .now) (c .before .before .before .before .before .before .before .before .before .before .args .«data» .now) (placesOf (c .before .before .before .before .before .before .before .before .before .before .args .starts .now)) two thirteen from upto) (c .before .before .before .before .before .before .before .before .before .before .args .map .now) (judged-sound (c .before .before .before .before .before .before .before .before .before .before .args .im .now) (length (c .before .before .before .before .before .before .before .before .before .before .args .«data» .now)) (sym (c .before .before .before .before .before .check-image .ensures) ∙ c .before .before .before .enum-told2 .given .1)) (rw (c .before .before .code-words .ensures) at (sym (c .before .has-room .ensures) ∙ c .if1 .left)))
+returns-3 c =
+    let a = c .before .before .before .before .before .before .before .before .before .before .args in
+    λ two thirteen from upto. sym (judged-4 (given (a .im .now) (a .«data» .now) (placesOf (a .starts .now)) two thirteen from upto) (a .map .now) (judged-sound (a .im .now) (length (a .«data» .now)) (sym (c .before .before .before .before .before .check-image .ensures) ∙ c .before .before .before .enum-told2 .given .1)) (rw (c .before .before .code-words .ensures) at (sym (c .before .has-room .ensures) ∙ c .if1 .left)))
 
 pub judge-spec : {M : Type 1} → statement M
 judge-spec =

@@ -37,13 +37,17 @@ enum-told : tie.Need-enum-told Inv-loop μ-loop
 enum-told c = search needs
 
 returns : tie.Need-returns Inv-loop μ-loop
-returns c = sym (judges-next (c .before .before .before .before .before .before .before .before .before .args .im .now) (c .before .before .before .before .before .before .before .before .before .args .starts .now) (c .before .before .before .before .before .before .loop .j) (c .before .before .before .before .before .loop-test .taken) _ (ap (codePlace (c .before .before .before .before .before .before .before .before .before .args .im .now)) (sym (c .before .before .before .place-of .ensures)) ∙ sym (c .before .before .code-place .ensures) ∙ c .enum-told .given .1)) ∙ c .before .before .before .before .before .before .loop .inv .0
+returns c =
+    let a = c .before .before .before .before .before .before .before .before .before .args in
+    sym (judges-next (a .im .now) (a .starts .now) (c .before .before .before .before .before .before .loop .j) (c .before .before .before .before .before .loop-test .taken) _ (ap (codePlace (a .im .now)) (sym (c .before .before .before .place-of .ensures)) ∙ sym (c .before .before .code-place .ensures) ∙ c .enum-told .given .1)) ∙ c .before .before .before .before .before .before .loop .inv .0
 
 enum-told-2 : tie.Need-enum-told-2 Inv-loop μ-loop
 enum-told-2 c = search needs
 
 returns-2 : tie.Need-returns-2 Inv-loop μ-loop
-returns-2 c = sym (judges-next (c .before .before .before .before .before .before .before .before .before .args .im .now) (c .before .before .before .before .before .before .before .before .before .args .starts .now) (c .before .before .before .before .before .before .loop .j) (c .before .before .before .before .before .loop-test .taken) _ (ap (codePlace (c .before .before .before .before .before .before .before .before .before .args .im .now)) (sym (c .before .before .before .place-of .ensures)) ∙ sym (c .before .before .code-place .ensures) ∙ c .enum-told2 .given .1)) ∙ c .before .before .before .before .before .before .loop .inv .0
+returns-2 c =
+    let a = c .before .before .before .before .before .before .before .before .before .args in
+    sym (judges-next (a .im .now) (a .starts .now) (c .before .before .before .before .before .before .loop .j) (c .before .before .before .before .before .loop-test .taken) _ (ap (codePlace (a .im .now)) (sym (c .before .before .before .place-of .ensures)) ∙ sym (c .before .before .code-place .ensures) ∙ c .enum-told2 .given .1)) ∙ c .before .before .before .before .before .before .loop .inv .0
 
 enum-told-3 : tie.Need-enum-told-3 Inv-loop μ-loop
 enum-told-3 c = search needs
@@ -55,10 +59,14 @@ loop-less : tie.Need-loop-less Inv-loop μ-loop
 loop-less c = search needs
 
 loop-again : tie.Need-loop-again Inv-loop μ-loop
-loop-again c = (sym (judges-next (c .before .before .before .before .before .before .before .before .before .args .im .now) (c .before .before .before .before .before .before .before .before .before .args .starts .now) (c .before .before .before .before .before .before .loop .j) (c .before .before .before .before .before .loop-test .taken) _ (ap (codePlace (c .before .before .before .before .before .before .before .before .before .args .im .now)) (sym (c .before .before .before .place-of .ensures)) ∙ sym (c .before .before .code-place .ensures) ∙ c .enum-told3 .given .1)) ∙ c .before .before .before .before .before .before .loop .inv .0, omega arith)
+loop-again c =
+    let a = c .before .before .before .before .before .before .before .before .before .args in
+    (sym (judges-next (a .im .now) (a .starts .now) (c .before .before .before .before .before .before .loop .j) (c .before .before .before .before .before .loop-test .taken) _ (ap (codePlace (a .im .now)) (sym (c .before .before .before .place-of .ensures)) ∙ sym (c .before .before .code-place .ensures) ∙ c .enum-told3 .given .1)) ∙ c .before .before .before .before .before .before .loop .inv .0, omega arith)
 
 returns-3 : tie.Need-returns-3 Inv-loop μ-loop
-returns-3 c = sym (judges-none (c .before .before .before .before .args .im .now) (c .before .before .before .before .args .starts .now) (c .before .loop .j) (omega arith)) ∙ c .before .loop .inv .0
+returns-3 c =
+    let a = c .before .before .before .before .args in
+    sym (judges-none (a .im .now) (a .starts .now) (c .before .loop .j) (omega arith)) ∙ c .before .loop .inv .0
 
 pub judge-starts-spec : {M : Type 1} → statement M
 judge-starts-spec =
