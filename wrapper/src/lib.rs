@@ -202,7 +202,7 @@ impl ImageFile {
         let mut given = [0; 9];
         let (answer, counts) = calls::read_file(file, &mut words, &mut starts, &mut given);
         if answer != 0 {
-            return Err(NoFile { wrong: Wrong::of(answer), at: counts[0] as usize });
+            return Err(NoFile { wrong: Wrong::numbered(answer), at: counts[0] as usize });
         }
         let [m, s, from, bytes] = counts.map(|n| n as usize);
         words.truncate(m);
@@ -320,12 +320,6 @@ numbered! {
     Trailing = 7, "the file goes on after its counts say";
     WordsRoom = 8, "more image words than there is room for";
     StartsRoom = 9, "more starts than there is room for";
-}
-
-impl Wrong {
-    fn of(n: u32) -> Wrong {
-        Wrong::numbered(n)
-    }
 }
 
 /// Bytes that are no image file: what is wrong, and the byte where that shows.
