@@ -1,5 +1,7 @@
 // The audit of image files of up to a MiB, which fits in the usual stack of 8 MiB. For larger files ./audit proves and builds the same
 // with 16777216 for 1048576, and runs it with a larger stack.
+#![tactic(auto)]
+
 ghost use Rattle.std.specs.Prelude.{◌≡◌, length};
 
 fn room() -> [u8; 1048576]

@@ -1,5 +1,7 @@
 // The audit of an image file: from standard input to lines that a person, or a script, reads (README.md, "An audit").
 // The work is in the crates below; what is read and written here is tested, not proved.
+#![tactic(auto)]
+
 ghost use Rattle.std.specs.Prelude.{◌≡◌, true, length};
 ghost use Rattle.image.specs.Rules.{sound};
 

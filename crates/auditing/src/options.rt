@@ -1,14 +1,14 @@
 // The program's arguments: --lines, and --report with a file's name after it.
 
 // Whether all were known, whether a script reads the lines, and which argument names the report's file (0: none).
-#[derive(Drop)]
+#[derive(Clone, Copy)]
 pub(crate) struct Options {
     pub(crate) known: bool,
     pub(crate) lines: bool,
     pub(crate) report: usize,
 }
 
-#[derive(Drop)]
+#[derive(Clone, Copy)]
 enum Asked {
     Lines,
     Report,

@@ -1,5 +1,7 @@
 // A state as the words of a slot without its place, read and changed where it lies: a state that is handed on by value is a copy.
 // Callers hand in cells that hold a state; our own crates alone call these.
+#![tactic(auto)]
+
 ghost use Rattle.std.specs.Prelude.{◌≡◌, ◌<◌, ◌≤◌, length};
 ghost use Rattle.vm.specs.Registers.{blank, reg, with_reg, cr_at, with_lr, with_ctr};
 ghost use Rattle.slot.specs.Layout.{state_size};

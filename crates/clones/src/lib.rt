@@ -1,5 +1,7 @@
 // The states that a word's ways hand on, written into a slot from the cells of the state that it leaves with: no state is
 // handed on by value. Callers keep a slot's words inside the list and hand in cells that hold a state.
+#![tactic(auto)]
+
 ghost use Rattle.std.specs.Prelude.{◌≡◌, ◌+◌, ◌*◌, ◌<◌, ◌≤◌, length, take, drop, replicate};
 ghost use Rattle.vm.specs.Registers.{reg, direct, marked};
 ghost use Rattle.vm.specs.States.{link_of, return_of, result_of, with_result};
@@ -17,7 +19,7 @@ use vm::GprValue;
 use vm::register::{set_direct, with_value};
 
 // What a way makes of the state that it leaves with.
-#[derive(Drop)]
+#[derive(Clone, Copy)]
 pub enum Made {
     Same,
     Link,

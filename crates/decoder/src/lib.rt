@@ -1,5 +1,7 @@
 // The decoder: which operation a word is, which general registers it writes, and where a branch goes.
 // No public function has a `requires`; each result is a definition of specs/, for all 2^32 words.
+#![tactic(auto)]
+
 ghost use Rattle.std.specs.Prelude.{◌≡◌};
 ghost use Rattle.decoder.specs.Ops.{number_of};
 ghost use Rattle.decoder.specs.Decode.{decoded, displacement_of, branch_dest};
@@ -10,7 +12,7 @@ mod table;
 
 // What `step` tells apart. Illegal: a word that document 01 does not list. Other: a listed word
 // of which only the registers that it writes are wanted.
-#[derive(Drop)]
+#[derive(Clone, Copy)]
 pub enum Op {
     Illegal,
     Other,
@@ -65,7 +67,7 @@ pub enum Op {
 }
 
 // The kinds of sets of general registers that a word writes: none, or what its fields rd_of and ra_of name.
-#[derive(Drop)]
+#[derive(Clone, Copy)]
 pub enum Writes {
     Nothing,
     Rd,
@@ -74,7 +76,7 @@ pub enum Writes {
 }
 
 // What a word is: its operation, and which registers it writes.
-#[derive(Drop)]
+#[derive(Clone, Copy)]
 pub struct Decoded {
     pub op: Op,
     pub writes: Writes,
@@ -123,7 +125,7 @@ pub fn written(w: u32) -> u32
 }
 
 // A register of a set, and the set without it.
-#[derive(Drop)]
+#[derive(Clone, Copy)]
 pub struct Taken {
     pub register: usize,
     pub rest: u32,

@@ -1,5 +1,7 @@
 // Holds the decoder against GNU objdump and qemu-ppc: reads the records that vectors/decoder made and prints, for each
 // kind of record, its number, how many there are and in how many of them the decoder says what the record says.
+#![tactic(auto)]
+
 ghost use Rattle.std.specs.Prelude.{◌≡◌, length};
 
 use decoder::Op;
@@ -94,7 +96,7 @@ fn alike(kind: usize, w: u32, a: u32, b: u32) -> bool {
 }
 
 // How many records of one kind there are, and how many of them the decoder agrees with.
-#[derive(Drop)]
+#[derive(Clone, Copy)]
 struct Tally {
     asked: u32,
     alike: u32,

@@ -6,7 +6,7 @@ use image::Judged;
 use libc::{STDIN_FILENO, STDOUT_FILENO};
 
 // The next record's kind and length in words, where there is one.
-#[derive(Drop)]
+#[derive(Clone, Copy)]
 pub struct Head {
     pub there: bool,
     pub kind: u32,
@@ -59,7 +59,7 @@ fn to_words(raw: &[u8], payload: &mut [u32], n: usize)
 }
 
 // How many words and bytes of its buffers the current image has.
-#[derive(Drop)]
+#[derive(Clone, Copy)]
 pub struct Current {
     pub words: usize,
     pub bytes: usize,

@@ -115,7 +115,7 @@ fn held(p: &[u32], i: usize) -> Held {
 }
 
 // A state, and the word after it.
-#[derive(Drop)]
+#[derive(Clone, Copy)]
 pub struct StateRead {
     pub state: VM,
     pub next: usize,

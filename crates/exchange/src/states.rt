@@ -37,7 +37,7 @@ fn is_unset(c: Cr) -> bool {
 }
 
 // Where the next item stands, and how many there are before it.
-#[derive(Drop)]
+#[derive(Clone, Copy)]
 struct Items {
     at: usize,
     count: u32,

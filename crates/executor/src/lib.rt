@@ -1,5 +1,7 @@
 // Branched execution, one instruction at a time: executor.rs with its callback turned into two calls, `next` and `reply`.
 // The caller keeps the stack's words and count, the visited map and the execution, and hands them to each call: any will do.
+#![tactic(auto)]
+
 pub mod following;
 pub mod judge;
 pub mod stepping;
@@ -18,7 +20,7 @@ use stepping::refused;
 use vm::VM;
 
 // Whether nothing is under way, the word at a place is to be stepped, or it was stepped and waits for a reply.
-#[derive(Drop)]
+#[derive(Clone, Copy)]
 pub enum Phase {
     Idle,
     Running,
@@ -26,7 +28,7 @@ pub enum Phase {
 }
 
 // What is under way: where, where its block began, and with which state.
-#[derive(Drop)]
+#[derive(Clone, Copy)]
 pub struct Execution {
     pub phase: Phase,
     pub at: SectionAddress,
@@ -35,7 +37,7 @@ pub struct Execution {
 }
 
 // Document 01's numbers: 0, 1, 12, 4, 11, 6, 2, 3, 5.
-#[derive(Drop)]
+#[derive(Clone, Copy)]
 pub enum Answer {
     Done,
     BrokenImage,
@@ -49,7 +51,7 @@ pub enum Answer {
 }
 
 // What judging image, stack and running place says.
-#[derive(Drop)]
+#[derive(Clone, Copy)]
 pub enum Verdict {
     BrokenImage,
     BadStack,
@@ -57,7 +59,7 @@ pub enum Verdict {
 }
 
 // What `next` came to: a refusal, an end (nothing waits any more, or the run passed its section's end), or a stepped word.
-#[derive(Drop)]
+#[derive(Clone, Copy)]
 pub enum Outcome {
     Refused(Answer),
     Ended,
@@ -65,7 +67,7 @@ pub enum Outcome {
 }
 
 // `run` is where the word stands and the state after it; `first` and `second` are the states of a Branch's two ways.
-#[derive(Drop)]
+#[derive(Clone, Copy)]
 pub struct Handed {
     pub outcome: Outcome,
     pub first: VM,
@@ -75,7 +77,7 @@ pub struct Handed {
 }
 
 // What the caller wants after a stepped word.
-#[derive(Drop)]
+#[derive(Clone, Copy)]
 pub enum ExecCbResult {
     Continue,
     Jump(SectionAddress),
@@ -83,19 +85,19 @@ pub enum ExecCbResult {
     End,
 }
 
-#[derive(Drop)]
+#[derive(Clone, Copy)]
 pub struct Replied {
     pub answer: Answer,
     pub run: Execution,
 }
 
-#[derive(Drop)]
+#[derive(Clone, Copy)]
 pub struct Pushing {
     pub answer: Answer,
     pub count: usize,
 }
 
-#[derive(Drop)]
+#[derive(Clone, Copy)]
 pub struct Visit {
     pub answer: Answer,
     pub visited: bool,

@@ -1,5 +1,7 @@
 // What a call of the executor costs at depth 3,000, by the first byte of standard input: a 3,000 states are pushed, b and `next` steps
 // the highest, c and a reply ends its block. Prints a letter for the outcome.
+#![tactic(auto)]
+
 ghost use Rattle.std.specs.Prelude.{◌≡◌, ◌<◌, length};
 ghost use Rattle.stack.specs.Stack.{Stack};
 

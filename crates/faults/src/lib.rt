@@ -1,5 +1,7 @@
 // Which rule of document 01, "The image", an image breaks: its answer 1, said in a way that a person can act on.
 // `broken_rule` takes any words; its parts require what the rules before them gave.
+#![tactic(auto)]
+
 ghost use Rattle.std.specs.Prelude.{◌≡◌};
 ghost use Rattle.image.specs.Laid.{Laid};
 ghost use Rattle.faults.specs.Faults.{section_rule, table_rule, symbol_rule, broken_rule};
@@ -11,7 +13,7 @@ use image::head::{is_counted, is_kind_known, laid_out};
 use image::sections::{data_inside, sections_apart, sections_sound};
 
 // The rules, in the order in which they are judged.
-#[derive(Drop)]
+#[derive(Clone, Copy)]
 pub enum Rule {
     // None is broken.
     Sound,

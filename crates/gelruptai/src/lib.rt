@@ -1,5 +1,7 @@
 // What C and Rust link: the product's entry points over numbers and slices, as include/gelruptai.h declares them.
 // They require nothing: a slice is a pointer and a length, and what a pointer owes is said in the header.
+#![tactic(auto)]
+
 mod given;
 mod numbers;
 

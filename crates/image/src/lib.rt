@@ -1,5 +1,7 @@
 // The image: tables of numbers in lent words, data in lent bytes (docs/FORMATS.md), and rule 1.
 // A function that requires something of the image is called by our own crates alone, after `check_image`.
+#![tactic(auto)]
+
 pub mod code;
 pub mod elf;
 pub mod entries;
@@ -13,7 +15,7 @@ ghost use Rattle.std.specs.Prelude.{◌≡◌, length};
 ghost use Rattle.image.specs.Rules.{judged};
 
 // One section: its address, size, kind and elf number, and the place and length of its data in the buffer.
-#[derive(Drop)]
+#[derive(Clone, Copy)]
 pub struct Section {
     pub address: u32,
     pub size: u32,
@@ -24,7 +26,7 @@ pub struct Section {
 }
 
 // A bound relocation. The addend is signed, in two's complement.
-#[derive(Drop)]
+#[derive(Clone, Copy)]
 pub struct Bound {
     pub section: u32,
     pub address: u32,
@@ -35,7 +37,7 @@ pub struct Bound {
 }
 
 // An unbound relocation: sections by elf number.
-#[derive(Drop)]
+#[derive(Clone, Copy)]
 pub struct Unbound {
     pub section: u32,
     pub address: u32,
@@ -46,7 +48,7 @@ pub struct Unbound {
 }
 
 // An object symbol.
-#[derive(Drop)]
+#[derive(Clone, Copy)]
 pub struct Symbol {
     pub section: u32,
     pub address: u32,
@@ -55,7 +57,7 @@ pub struct Symbol {
 }
 
 // What judging an image answers.
-#[derive(Drop)]
+#[derive(Clone, Copy)]
 pub enum Judged {
     Broken,
     Sound,

@@ -1,5 +1,7 @@
 // An image file (docs/FORMATS.md, "The image file"): its head judged, its counts, and its words and starts in lent buffers.
 // The entry points are `read_file`, `whole_length` and `data_of`; they take any bytes and any buffers.
+#![tactic(auto)]
+
 ghost use Rattle.std.specs.Prelude.{◌≡◌, length, drop};
 ghost use Rattle.image_file.specs.Reading.{whole_length, data_from, answered, image_left, starts_left};
 
@@ -11,7 +13,7 @@ pub mod copies;
 pub mod fields;
 
 // What is wrong with a file.
-#[derive(Drop)]
+#[derive(Clone, Copy)]
 pub enum Wrong {
     // It ends inside the head.
     Short,
@@ -34,14 +36,14 @@ pub enum Wrong {
 }
 
 // What is wrong, and the byte at which that shows; or nothing.
-#[derive(Drop)]
+#[derive(Clone, Copy)]
 pub enum Check {
     Fine,
     Off(Wrong, usize),
 }
 
 // What the head says: how many image words, starts and data bytes there are, and what the walk is given besides.
-#[derive(Drop)]
+#[derive(Clone, Copy)]
 pub struct Head {
     pub words: u32,
     pub starts: u32,
@@ -53,7 +55,7 @@ pub struct Head {
 }
 
 // What reading a file answers.
-#[derive(Drop)]
+#[derive(Clone, Copy)]
 pub enum Parsed {
     Bad(Wrong, usize),
     File(Head),

@@ -1,5 +1,7 @@
 // Jump tables: the entries of a table, sized or guessed, ascending and distinct in a lent buffer.
 // An entry is one number, its section's index times 2^32 plus its address.
+#![tactic(auto)]
+
 ghost use Rattle.std.specs.Prelude.{◌≡◌};
 ghost use Rattle.jump_tables.specs.Tables.{table_of};
 
@@ -14,14 +16,14 @@ pub use readings::{guessed_reading, sized_reading};
 pub use tables::table_in;
 
 // How a table is read: by its size, or guessed within a function's start and its end, which may be missing.
-#[derive(Drop)]
+#[derive(Clone, Copy)]
 pub enum How {
     Sized,
     Guessed(SectionAddress, MaybeAddress),
 }
 
 // What a word of a table means.
-#[derive(Drop)]
+#[derive(Clone, Copy)]
 pub enum Reading {
     // The guess ends before this word.
     Stopped,
@@ -35,14 +37,14 @@ pub enum Reading {
 }
 
 // How many entries a buffer holds, and whether one more was met that it has no room for.
-#[derive(Drop)]
+#[derive(Clone, Copy)]
 pub struct Held {
     pub count: usize,
     pub over: bool,
 }
 
 // Document 01's numbers: 1, 7, 8, 9, 10; and 0 for a table that was read.
-#[derive(Drop)]
+#[derive(Clone, Copy)]
 pub enum TableAnswer {
     Broken,
     RelocationError,
@@ -53,7 +55,7 @@ pub enum TableAnswer {
 }
 
 // The answer; where the table was read, how many entries it has and the bytes passed.
-#[derive(Drop)]
+#[derive(Clone, Copy)]
 pub struct Table {
     pub answer: TableAnswer,
     pub count: usize,

@@ -1,5 +1,7 @@
 // Every lookup in an image, by the names of the Rust where it has them.
 // Each requires sound tables (image::check_image says so) and is called by our own crates alone.
+#![tactic(auto)]
+
 use places::RelocationTarget;
 
 pub mod bytes;
@@ -15,7 +17,7 @@ pub use sections::at_address;
 pub use sorted::{bound_index, known_size, symbol_index};
 
 // The relocation kind that is asked for, or any.
-#[derive(Drop)]
+#[derive(Clone, Copy)]
 pub enum Wanted {
     Any,
     Absolute,
@@ -23,7 +25,7 @@ pub enum Wanted {
 }
 
 // What a relocation lookup answers.
-#[derive(Drop)]
+#[derive(Clone, Copy)]
 pub enum Relocation {
     Nothing,
     Error,
@@ -31,14 +33,14 @@ pub enum Relocation {
 }
 
 // A word that was read, or none.
-#[derive(Drop)]
+#[derive(Clone, Copy)]
 pub enum MaybeWord {
     Missing,
     Read(u32),
 }
 
 // A place judged as one of code.
-#[derive(Drop)]
+#[derive(Clone, Copy)]
 pub enum CodePlace {
     NotCode,
     Misaligned,
@@ -46,5 +48,5 @@ pub enum CodePlace {
 }
 
 // The number of a Code word, counted in section order: its bit in a visited map. Never an address.
-#[derive(Drop)]
+#[derive(Clone, Copy)]
 pub struct WordNumber(pub u32);

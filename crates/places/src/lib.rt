@@ -1,30 +1,32 @@
 // Places in an image and what a relocation points to: the types that the tables and the machine share.
 // A place is a section's index and an address; nothing here asks whether the image has it.
+#![tactic(auto)]
+
 ghost use Rattle.std.specs.Prelude.{◌≡◌};
 ghost use Rattle.places.specs.Places.{moved, before};
 
-#[derive(Drop)]
+#[derive(Clone, Copy)]
 pub struct SectionAddress {
     pub section: u32,
     pub address: u32,
 }
 
 // What a relocation points to.
-#[derive(Drop)]
+#[derive(Clone, Copy)]
 pub enum RelocationTarget {
     External,
     Address(SectionAddress),
 }
 
 // A place, or none.
-#[derive(Drop)]
+#[derive(Clone, Copy)]
 pub enum MaybeAddress {
     Nowhere,
     At(SectionAddress),
 }
 
 // A target, or none.
-#[derive(Drop)]
+#[derive(Clone, Copy)]
 pub enum MaybeTarget {
     Missing,
     Known(RelocationTarget),

@@ -1,5 +1,7 @@
 // What a word asks when it leaves a block: places are pushed in order, each with its own state; a table is read, then its entries pushed.
 // Requires a sound image, words and a count that are a stack, and cells that hold the state; our own crates alone call these.
+#![tactic(auto)]
+
 pub mod tables;
 pub mod targets;
 
@@ -19,7 +21,7 @@ use targets::{is_way, is_word, stays_in};
 use vm::{BranchTarget, GprValue};
 
 // What pushing leaves: how many states wait, whether a push was refused (5), tables read and not read.
-#[derive(Drop)]
+#[derive(Clone, Copy)]
 pub struct Taken {
     pub held: usize,
     pub full: bool,

@@ -1,5 +1,7 @@
 // Section records lent as a slice: the first match by address and by elf number, and the way into the image's words.
 // A function over `&[Section]` is proved by a walk of its code; the tests and stores that it calls are covered.
+#![tactic(auto)]
+
 ghost use Rattle.std.specs.Prelude.{◌≡◌, ◌+◌, ◌*◌, ◌<◌, ◌≤◌, length};
 ghost use Rattle.image.specs.Numbers.{max_sections};
 ghost use Rattle.image.specs.Rules.{holds};
@@ -58,7 +60,7 @@ pub fn section_by_elf(t: &[Section], elf: u32) -> Found
 const MAX_SECTIONS: usize = 64;
 
 // What writing records into the image's words answers: how many, or why none.
-#[derive(Drop)]
+#[derive(Clone, Copy)]
 pub enum Written {
     TooMany,
     NoRoom,

@@ -12,7 +12,7 @@ use vm::VM;
 
 // What a script keeps between two operations: what is under way, how many states wait, where the next operation stands in
 // the case, and where its answer goes in the line.
-#[derive(Drop)]
+#[derive(Clone, Copy)]
 struct Kept {
     run: Execution,
     count: usize,

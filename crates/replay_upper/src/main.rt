@@ -1,5 +1,7 @@
 // Answers a file of cases of kinds 1 and 10 to 12 (docs/FORMATS.md) over the proved libraries: cases on standard input, a line
 // of words for each on standard output. The oracle answers the same file; equal means equal byte for byte.
+#![tactic(auto)]
+
 mod reports;
 mod rooms;
 mod walks;

@@ -1,5 +1,7 @@
 // The report of visited words, version 1: written from a map, and read into one, over an image (docs/FORMATS.md).
 // The two entry points take any words and bytes.
+#![tactic(auto)]
+
 ghost use Rattle.std.specs.Prelude.{◌≡◌, length};
 ghost use Rattle.report.specs.Answers.{write_answer, write_leaves, read_answer, read_leaves};
 
@@ -9,7 +11,7 @@ pub mod read;
 pub mod write;
 
 // Where the next bytes go, and the words passed since the last run: not visited ones, then visited ones.
-#[derive(Drop)]
+#[derive(Clone, Copy)]
 pub struct Scan {
     pub at: usize,
     pub gap: u32,
@@ -17,21 +19,21 @@ pub struct Scan {
 }
 
 // The place after what was read, or that no report goes on so.
-#[derive(Drop)]
+#[derive(Clone, Copy)]
 pub enum Place {
     Lost,
     At(usize),
 }
 
 // A run's gap, its length and the place after it, or none that may stand there.
-#[derive(Drop)]
+#[derive(Clone, Copy)]
 pub enum Found {
     NoRun,
     Next(u32, u32, usize),
 }
 
 // What writing a report answers: document 01's 1, 4 and 10, or how many bytes were written.
-#[derive(Drop)]
+#[derive(Clone, Copy)]
 pub enum Wrote {
     BrokenImage,
     SmallMap,
@@ -40,7 +42,7 @@ pub enum Wrote {
 }
 
 // What reading a report answers: document 01's 1, 4 and 13, or that it is done.
-#[derive(Drop)]
+#[derive(Clone, Copy)]
 pub enum Done {
     BrokenImage,
     SmallMap,

@@ -1,5 +1,7 @@
 // A straight run over a state that stays in its cells: words until one ends the run, or the bytes do.
 // The image's tables are sound, and the cells hold a state.
+#![tactic(auto)]
+
 pub mod carry;
 pub mod word;
 
@@ -14,7 +16,7 @@ use step::Leave;
 use word::one;
 
 // Where a run stopped, and why; the cells hold the state before the word there.
-#[derive(Drop)]
+#[derive(Clone, Copy)]
 pub struct Halted {
     pub leave: Leave,
     pub at: SectionAddress,

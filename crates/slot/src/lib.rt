@@ -1,5 +1,7 @@
 // One waiting state in a fixed number of words: its place, its registers, its compare records, LR and CTR.
 // Callers keep a slot's words inside the list. Whatever a state can hold can be written, and is read back.
+#![tactic(auto)]
+
 pub mod record;
 pub mod value;
 
@@ -16,7 +18,7 @@ use vm::VM;
 pub const SLOT_WORDS: usize = 330;
 
 // A value as a tag below 16 and three numbers.
-#[derive(Drop)]
+#[derive(Clone, Copy)]
 pub struct Numbers {
     pub tag: u32,
     pub a: u32,
@@ -25,7 +27,7 @@ pub struct Numbers {
 }
 
 // A place that may be missing: 1 and its numbers, or zeros.
-#[derive(Drop)]
+#[derive(Clone, Copy)]
 pub struct AddressNumbers {
     pub known: u32,
     pub section: u32,

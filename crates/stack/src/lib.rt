@@ -1,5 +1,7 @@
 // A stack of waiting states in lent words; the caller keeps the count of held states and hands it in.
 // Words and count are a stack (`is_stack` tells); with count 0 the words may be anything. Slots stay where they are, a table orders them.
+#![tactic(auto)]
+
 pub mod judge;
 pub mod order;
 
@@ -18,7 +20,7 @@ use places::SectionAddress;
 use vm::VM;
 
 // Whether a push was taken, and the count after it.
-#[derive(Drop)]
+#[derive(Clone, Copy)]
 pub struct Pushed {
     pub taken: bool,
     pub count: usize,

@@ -1,6 +1,8 @@
 // What pushes and pops cost, by the first byte of standard input: a nothing, b 3,000 sorted pushes from cells ascending, c descending, e is b
 // with 3,000 pops of places alone, d is e with 3,000 pops into cells and pushes from them before it, f is b with a test of the whole stack.
 // The same with states by value: g is b with them, h is d with such pops and pushes.
+#![tactic(auto)]
+
 ghost use Rattle.std.specs.Prelude.{◌≡◌, ◌<◌, length};
 ghost use Rattle.cells.specs.Cells.{state_of, Cells};
 ghost use Rattle.slot.specs.Layout.{state_size};

@@ -1,5 +1,7 @@
 // One step of the abstract machine, and a straight run of steps in place: vm.rs, arm by arm.
 // A word is turned into an Effect by its operands' records; `step` and the run carry the effect out.
+#![tactic(auto)]
+
 ghost use Rattle.std.specs.Prelude.{◌≡◌, length};
 ghost use Rattle.step.specs.Step.{stepped_of, refused_of};
 
@@ -15,7 +17,7 @@ use places::{MaybeTarget, RelocationTarget, SectionAddress};
 use vm::{BranchTarget, Cr, Gpr, GprValue, VM};
 
 // Why `step` refuses: document 01's 1, 2 and 3.
-#[derive(Drop)]
+#[derive(Clone, Copy)]
 pub enum Refusal {
     BrokenImage,
     NotCode,
@@ -23,13 +25,13 @@ pub enum Refusal {
 }
 
 // A way out of a Branch.
-#[derive(Drop)]
+#[derive(Clone, Copy)]
 pub struct Branch {
     pub target: BranchTarget,
     pub link: bool,
 }
 
-#[derive(Drop)]
+#[derive(Clone, Copy)]
 pub enum StepResult {
     Continue,
     LoadStore {
@@ -48,7 +50,7 @@ pub enum StepResult {
 }
 
 // `vm` is the state after the word, of a Branch the first way's; `other` is the second way's, of any other result `vm` again.
-#[derive(Drop)]
+#[derive(Clone, Copy)]
 pub struct Stepped {
     pub result: StepResult,
     pub vm: VM,
@@ -56,7 +58,7 @@ pub struct Stepped {
 }
 
 // The words that end a straight run.
-#[derive(Drop)]
+#[derive(Clone, Copy)]
 pub enum Way {
     Illegal,
     B,
@@ -67,7 +69,7 @@ pub enum Way {
 }
 
 // What a word does to the state, once the records of its operands are known.
-#[derive(Drop)]
+#[derive(Clone, Copy)]
 pub enum Effect {
     Nothing,
     SetD(Gpr),
@@ -86,7 +88,7 @@ pub enum Effect {
 }
 
 // How a straight run ends.
-#[derive(Drop)]
+#[derive(Clone, Copy)]
 pub enum Leave {
     // At the section's end.
     Ended,
@@ -106,7 +108,7 @@ pub enum Leave {
 }
 
 // Where a run stopped, why, and the state before the word there.
-#[derive(Drop)]
+#[derive(Clone, Copy)]
 pub struct Stopped {
     pub leave: Leave,
     pub at: SectionAddress,

@@ -1,5 +1,7 @@
 // Runs recorded words in place over one state, as often as the first word of standard input says, for bench/step to count
 // instructions; the words follow, at most 16,383 of them. Prints where the last run stopped.
+#![tactic(auto)]
+
 ghost use Rattle.std.specs.Prelude.{◌≡◌, true, length};
 ghost use Rattle.image.specs.Rules.{tables_sound};
 

@@ -1,5 +1,7 @@
 // Holds `step` on Constant states against a PowerPC: reads the records that vectors/straight made and prints, for each
 // class of words, how many there are and after how many all thirty-two registers are what qemu-ppc had.
+#![tactic(auto)]
+
 ghost use Rattle.std.specs.Prelude.{◌<◌, ◌+◌, ◌≤◌, ◌≡◌, length};
 
 use libc::{STDIN_FILENO, STDOUT_FILENO};
@@ -101,7 +103,7 @@ fn is_alike(s: &[u8], at: usize) -> bool
 }
 
 // How many records of one class there are, and how many of them are alike.
-#[derive(Drop)]
+#[derive(Clone, Copy)]
 struct Tally {
     words: u32,
     alike: u32,

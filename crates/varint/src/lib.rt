@@ -1,11 +1,13 @@
 // Numbers below 2^32 in groups of seven bits, low group first, the top bit set on all but the last, in shortest form.
 // Reading takes any bytes and any place; writing requires that the place can advance, and our own crates alone call it.
+#![tactic(auto)]
+
 ghost use Rattle.std.specs.Prelude.{◌≡◌, ◌+◌, ◌^◌, ◌<◌, length, set};
 ghost use Rattle.std.proofs.lemmas.List.Edits.{sets};
 ghost use Rattle.varint.specs.Groups.{groups, varint, read_groups, number_at};
 
 // What reads at a place: a number and the place after it, or none.
-#[derive(Drop)]
+#[derive(Clone, Copy)]
 pub enum Read {
     Bad,
     Number(u32, usize),

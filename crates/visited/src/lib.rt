@@ -1,5 +1,7 @@
 // The visited map in lent u32 words: bit b stands for Code word number b, the low bit of each word first.
 // Every function takes any map and any number; a bit past the map's end is not there.
+#![tactic(auto)]
+
 ghost use Rattle.std.specs.Prelude.{◌≡◌, ◌-◌, min};
 ghost use Rattle.visited.specs.Bits.{visited_at, has_room, with_bit, with_run, without_low, cleared, low_ones, ones_below};
 

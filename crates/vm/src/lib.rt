@@ -1,5 +1,7 @@
 // The abstract state: thirty-two register records, eight compare records, LR and CTR, and the rules on their values.
 // Names and arms are those of vm.rs. A register's index is below 32 wherever it is asked for; nothing else is assumed.
+#![tactic(auto)]
+
 pub mod register;
 pub mod rule;
 pub mod splits;
@@ -8,14 +10,14 @@ pub mod state;
 use places::{MaybeAddress, RelocationTarget};
 
 // The largest offset into a table, or its size in bytes, where it is known.
-#[derive(Drop)]
+#[derive(Clone, Copy)]
 pub enum TableSize {
     Guessed,
     Bytes(u32),
 }
 
 // What is known of a register's value.
-#[derive(Drop)]
+#[derive(Clone, Copy)]
 pub enum GprValue {
     Unknown,
     Constant(u32),
@@ -35,7 +37,7 @@ pub enum GprValue {
     },
 }
 
-#[derive(Drop)]
+#[derive(Clone, Copy)]
 pub struct Gpr {
     pub value: GprValue,
     // The words that load the high and the low part of the value.
@@ -44,7 +46,7 @@ pub struct Gpr {
 }
 
 // A compare: both sides, and whether it was signed.
-#[derive(Drop)]
+#[derive(Clone, Copy)]
 pub struct Cr {
     pub left: GprValue,
     pub right: GprValue,
@@ -52,12 +54,12 @@ pub struct Cr {
 }
 
 // LR's and CTR's value: a struct, since a store to a field that is an enum is proved by hand.
-#[derive(Drop)]
+#[derive(Clone, Copy)]
 pub struct Held {
     pub value: GprValue,
 }
 
-#[derive(Drop)]
+#[derive(Clone, Copy)]
 pub struct VM {
     pub gpr: [Gpr; 32],
     pub cr: [Cr; 8],
@@ -65,7 +67,7 @@ pub struct VM {
     pub ctr: Held,
 }
 
-#[derive(Drop)]
+#[derive(Clone, Copy)]
 pub enum BranchTarget {
     // CTR without a known value.
     Unknown,
@@ -79,14 +81,14 @@ pub enum BranchTarget {
 }
 
 // A number for r2 or r13 in a new state, or none.
-#[derive(Drop)]
+#[derive(Clone, Copy)]
 pub enum MaybeBase {
     Unset,
     Value(u32),
 }
 
 // What a conditional branch tells of the compared register: where its bit is false, and where it is true.
-#[derive(Drop)]
+#[derive(Clone, Copy)]
 pub struct Split {
     pub fails: GprValue,
     pub holds: GprValue,

@@ -1,5 +1,7 @@
 // The walk: from its starts over all code that they lead to, as crate `turns` defines it.
 // `walk` requires nothing. A start is its section's index times 2^32 plus its address.
+#![tactic(auto)]
+
 pub mod blocks;
 pub mod starts;
 
@@ -21,7 +23,7 @@ use vm::MaybeBase;
 pub const TABLE_ROOM: usize = 1024;
 
 // How a walk begins: the judgement, and where nothing is refused how many starts wait, and whether a push was refused (5).
-#[derive(Drop)]
+#[derive(Clone, Copy)]
 pub struct Begun {
     pub answer: WalkAnswer,
     pub held: usize,
@@ -31,7 +33,7 @@ pub struct Begun {
 // How a block ended. `leaves`: its last word leaves by ways that are still to take; else nothing is left to do there. `at` is the
 // word that left, or the section's end. Then how many words were stepped, the last one included where there is one, and how many
 // blocks were begun by jumps inside the section.
-#[derive(Drop)]
+#[derive(Clone, Copy)]
 pub struct Ended {
     pub leaves: bool,
     pub leave: Leave,

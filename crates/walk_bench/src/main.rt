@@ -1,5 +1,7 @@
 // Walks the image of a case as often as the first word of standard input says and prints the walk's answer, for bench/walk to
 // count. After that word stand a record of kind 1 and one of kind 10 (docs/FORMATS.md); the walk's fill is 0, its slots 5,120.
+#![tactic(auto)]
+
 mod print;
 mod read;
 mod rooms;

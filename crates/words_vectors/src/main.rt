@@ -1,5 +1,7 @@
 // Holds the words layer against GNU objdump and qemu-ppc: reads the records that vectors/words made and prints, for each
 // thing asked, its number, how many records asked it and in how many our answer was the recorded one.
+#![tactic(auto)]
+
 ghost use Rattle.std.specs.Prelude.{◌<◌, ◌≡◌, length};
 
 use libc::{STDIN_FILENO, STDOUT_FILENO};
@@ -60,7 +62,7 @@ fn answer_more(what: usize, w: u32, a: u32, b: u32) -> u32 {
 }
 
 // How many records of one kind there are, and how many of them we answer alike.
-#[derive(Drop)]
+#[derive(Clone, Copy)]
 struct Tally {
     asked: u32,
     alike: u32,
