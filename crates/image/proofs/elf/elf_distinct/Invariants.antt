@@ -1,0 +1,23 @@
+-- `image::elf::elf_distinct` meets its contract: the sections passed all have new elf numbers.
+use Prim.Native.Nat.{ℕ, ◌-◌, ◌≤◌}
+use mathlib.Core.List.{List}
+use mathlib.Core.Bool.{Bool, true, not}
+use mathlib.Core.Path.{◌≡◌, sym}
+use native.Mathlib.Omega.{arith}
+use lib.Dec.{eqb}
+use borrow.Author.Rules.{rules}
+use Rattle.search.proofs.Answers.{passed, failed}
+use Rattle.search.proofs.EveryLaws.{every_none, every_more, every_fails, every_done}
+use Rattle.search.specs.Every.{every}
+use Rattle.image.specs.Rules.{elf_distinct}
+use Rattle.image.specs.Layout.{sections, section_at}
+use Rattle.image.proofs.elf.elf_distinct.Given as goal
+
+abbrev pub new_at : List ℕ → ℕ → Bool
+new_at ws i = every (λ (j : ℕ). not (eqb (section_at ws j).elf (section_at ws i).elf)) i
+
+abbrev pub invariant-loop-i : goal.invariant-loop-i
+invariant-loop-i l = (l.i ≤ sections l.im) × (every (new_at l.im) l.i ≡ true)
+
+abbrev pub decreases-loop-i : goal.decreases-loop-i
+decreases-loop-i l = l.n - l.i

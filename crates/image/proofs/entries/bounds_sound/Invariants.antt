@@ -1,0 +1,22 @@
+-- `image::entries::bounds_sound` meets its contract: the relocations passed are all sound.
+use Prim.Native.Nat.{ℕ, ◌-◌, ◌≤◌}
+use mathlib.Core.List.{List}
+use mathlib.Core.Bool.{Bool, true}
+use mathlib.Core.Path.{◌≡◌, sym, ap, ◌∙◌}
+use native.Mathlib.Omega.{arith}
+use borrow.Author.Rules.{rules}
+use Rattle.search.proofs.Answers.{passed, failed}
+use Rattle.search.proofs.EveryLaws.{every_none, every_more, every_fails, every_done}
+use Rattle.search.specs.Every.{every}
+use Rattle.image.specs.Rules.{bound_sound, bounds_sound}
+use Rattle.image.specs.Layout.{bounds, bound_at}
+use Rattle.image.proofs.entries.bounds_sound.Given as goal
+
+abbrev pub sound_at : List ℕ → ℕ → Bool
+sound_at ws j = bound_sound ws (bound_at ws j)
+
+abbrev pub invariant-loop-j : goal.invariant-loop-j
+invariant-loop-j l = (l.j ≤ bounds l.im) × (every (sound_at l.im) l.j ≡ true)
+
+abbrev pub decreases-loop-j : goal.decreases-loop-j
+decreases-loop-j l = l.n - l.j

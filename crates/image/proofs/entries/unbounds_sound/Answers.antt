@@ -1,0 +1,34 @@
+-- `image::entries::unbounds_sound` meets its contract: the relocations passed are all sound.
+use Prim.Native.Nat.{ℕ, ◌-◌, ◌≤◌}
+use mathlib.Core.List.{List}
+use mathlib.Core.Bool.{Bool, true}
+use mathlib.Core.Path.{◌≡◌, sym, ap, ◌∙◌}
+use native.Mathlib.Omega.{arith}
+use borrow.Author.Rules.{rules}
+use Rattle.search.proofs.Answers.{passed, failed}
+use Rattle.search.proofs.EveryLaws.{every_none, every_more, every_fails, every_done}
+use Rattle.search.specs.Every.{every}
+use Rattle.image.specs.Rules.{unbound_sound, unbounds_sound}
+use Rattle.image.specs.Layout.{unbounds, unbound_at}
+use Rattle.image.proofs.entries.unbounds_sound.Invariants.{sound_at}
+use Rattle.image.proofs.entries.unbounds_sound.Goals as goal
+
+pub loop-j-init : goal.loop-j-init
+loop-j-init c = (omega arith, every_none _)
+
+pub returns-then-not-unbound_sound : goal.returns-then-not-unbound_sound
+unfolding unbounds_sound
+returns-then-not-unbound_sound c =
+    let a = c.args in
+    sym (every_fails (sound_at a.im.now) _ c.loop-j.j (omega arith) (failed (c.unbound_sound.ensures ∙ ap (unbound_sound a.im.now) c.unbound.ensures) c.if-not-unbound_sound.true-raw))
+
+pub loop-j-preserved : goal.loop-j-preserved
+loop-j-preserved c =
+    let a = c.args in
+    (omega arith, every_more (sound_at a.im.now) c.loop-j.j c.loop-j.invariant.1 (passed (c.unbound_sound.ensures ∙ ap (unbound_sound a.im.now) c.unbound.ensures) c.if-not-unbound_sound.false-raw))
+
+pub returns : goal.returns
+unfolding unbounds_sound
+returns c =
+    let a = c.args in
+    sym (every_done (sound_at a.im.now) _ c.loop-j.j (omega arith) c.loop-j.invariant.1)
