@@ -1,6 +1,5 @@
 -- Laws that belong to no one function.
 pub mod Values
 pub mod Lists
-pub mod Shape
 pub mod Whole
 pub mod Dedicated

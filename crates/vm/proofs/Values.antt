@@ -47,13 +47,16 @@ not_mark (Range a b c) f z o = refl
 not_mark (LoadIndexed t m) f z o = refl
 
 -- neither a Constant nor a Range: the last way of the rotate rule
-pub neither : {A : Type 0} (v : GprValue) (f : ℕ → A) (h : ℕ → ℕ → ℕ → A) (z : A) → OneOf (0 ∷ 2 ∷ 3 ∷ 5 ∷ []) (tag_of the_type v) → on_const v f (on_range v h z) ≡ z
-neither Unknown f h z o = refl
-neither (Constant a) f h z o = absurd (miss (0 ∷ 2 ∷ 3 ∷ 5 ∷ []) 1 tt o)
-neither (Address t) f h z o = refl
-neither (ComparisonResult k) f h z o = refl
-neither (Range a b c) f h z o = absurd (miss (0 ∷ 2 ∷ 3 ∷ 5 ∷ []) 4 tt o)
-neither (LoadIndexed t m) f h z o = refl
+pub neither :
+    {A : Type 0} (v : GprValue) (f : ℕ → A) (h : ℕ → ℕ → ℕ → A) (z : A)
+    → ((a : ℕ) → v ≡ Constant a → ⊥) → ((a b c : ℕ) → v ≡ Range a b c → ⊥)
+    → on_const v f (on_range v h z) ≡ z
+neither Unknown f h z nc nr = refl
+neither (Constant a) f h z nc nr = absurd (nc a refl)
+neither (Address t) f h z nc nr = refl
+neither (ComparisonResult k) f h z nc nr = refl
+neither (Range a b c) f h z nc nr = absurd (nr a b c refl)
+neither (LoadIndexed t m) f h z nc nr = refl
 
 -- what a mark of field k decides, by the test whether there is one
 pub by_mark : {A : Type 0} (v : GprValue) (k : ℕ) (a z : A) → on_mark v (λ j. pick (eqb j k) a z) z ≡ pick (on_mark v (λ j. eqb j k) false) a z
