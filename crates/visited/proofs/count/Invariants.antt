@@ -1,0 +1,15 @@
+-- `visited::count` meets its contract.
+use mathlib.Core.Path.{◌≡◌, sym, ap, ◌∙◌}
+use Prim.Native.Nat.{◌+◌, ◌-◌, ◌*◌, ◌≤◌, min}
+use native.Mathlib.Omega.{arith}
+use lib.ListN.{length}
+use borrow.Author.Rules.{rules}
+use Rattle.visited.specs.Bits.{ones_below}
+use Rattle.visited.proofs.Counting.{ones_at_most, counted_one_more, counted_whole}
+use Rattle.visited.proofs.count.Given as goal
+
+abbrev pub invariant-loop-i : goal.invariant-loop-i
+invariant-loop-i l = (l.i ≤ length l.map) × (l.left ≡ l.n - l.i * 32) × (l.ones ≡ ones_below l.map (min l.n (l.i * 32)))
+
+abbrev pub decreases-loop-i : goal.decreases-loop-i
+decreases-loop-i l = length l.map - l.i
