@@ -153,6 +153,9 @@ good_case : (r : Reading) (rs : List Reading) → Good r → verdict (on_stop r 
 unfolding verdict
 good_case Skipped rs Good.skipped = refl
 good_case (Entry t) rs Good.entry = refl
+good_case Stopped rs x' = elim x' [ ]
+good_case Faulty rs x'' = elim x'' [ ]
+good_case Nowhere rs x3 = elim x3 [ ]
 
 first_bad : (f : ℕ → Reading) (n k i : ℕ) → k < n → ((j : ℕ) → j < k → Good (f (i + j))) → verdict (passed f n i) ≡ verdict (passed f (n - k) (i + k))
 unfolding passed

@@ -58,6 +58,7 @@ pass_case Skipped rs n Passes.skipped e = ap suc e
 pass_case Faulty rs n Passes.faulty e = ap suc e
 pass_case Nowhere rs n Passes.nowhere e = ap suc e
 pass_case (Entry t) rs n Passes.entry e = ap suc e
+pass_case Stopped rs n x'' e = elim x'' [ ]
 
 pub all_passed : (f : ℕ → Reading) (n i : ℕ) → ((k : ℕ) → i ≤ k → k < i + n → Passes (f k)) → length (passed f n i) ≡ n
 unfolding passed

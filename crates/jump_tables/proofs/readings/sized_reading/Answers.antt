@@ -1,0 +1,17 @@
+-- The relocation is looked up first, then the word.
+use mathlib.Core.Path.{sym, ◌∙◌}
+use Rattle.jump_tables.specs.Readings.{sized_reading}
+use borrow.Author.Rules.{rules}
+use Rattle.jump_tables.proofs.readings.sized_reading.Goals as goal
+
+pub returns-in-Error : goal.returns-in-Error
+unfolding sized_reading
+returns-in-Error c = rw (sym c.relocation_target_for.ensures ∙ c.in-Error.is)
+
+pub returns-in-To : goal.returns-in-To
+unfolding sized_reading
+returns-in-To c = rw (c.sized_target.ensures, sym c.relocation_target_for.ensures ∙ c.in-To.is)
+
+pub returns-in-Nothing : goal.returns-in-Nothing
+unfolding sized_reading
+returns-in-Nothing c = rw (c.sized_word.ensures, c.read_u32.ensures, sym c.relocation_target_for.ensures ∙ c.in-Nothing.is)
