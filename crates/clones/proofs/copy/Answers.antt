@@ -1,0 +1,20 @@
+-- The loop's invariant: the words passed are copied. The measure is the words that are left.
+use mathlib.Core.Path.{◌≡◌, refl, ap, ◌∙◌}
+use mathlib.Core.List.{List}
+use Prim.Native.Nat.{ℕ, ◌+◌, ◌-◌, ◌≤◌}
+use native.Mathlib.Omega.{arith}
+use lib.ListN.{length, get_or, set, take, drop, length-set}
+use borrow.Author.Rules.{rules}
+use Rattle.slot.proofs.PutLaws.{put_nil}
+use Rattle.slot.specs.Put.{put}
+use Rattle.clones.proofs.OverLaws.{put_copied}
+use Rattle.clones.proofs.copy.Goals as goal
+
+pub loop-i-preserved : goal.loop-i-preserved
+loop-i-preserved c =
+    let a = c.args in (
+      omega arith,
+      length-set c.loop-i.to (a.at + c.loop-i.i) (get_or a.from.now (a.first + c.loop-i.i) 0) ∙ c.loop-i.invariant.1,
+      ap (λ (l : List ℕ). set l (a.at + c.loop-i.i) (get_or a.from.now (a.first + c.loop-i.i) 0)) c.loop-i.invariant.2
+          ∙ put_copied a.to.now a.at a.from.now a.first c.loop-i.i (omega arith) (omega arith),
+    )
