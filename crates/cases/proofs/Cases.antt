@@ -1,9 +1,8 @@
 -- Document 01's cases C1 to C13: one computation over the table, and each case by it.
 -- Assumes nothing.
-use mathlib.Core.Path.{◌≡◌, refl, ap, sym, ◌∙◌}
+use mathlib.Core.Path.{◌≡◌, refl, ap}
 use mathlib.Core.List.Memᴰ
 use mathlib.Core.List.{List, [], ◌∷◌, map, Memᴰ}
-use Prim.Native.Nat.{ℕ}
 use Rattle.words.specs.Bits.{number, mask_of, rotated}
 use Rattle.words.specs.Sums.{complement_of}
 use Rattle.search.specs.First.{first_from}
@@ -20,7 +19,7 @@ use Rattle.step.specs.Step.{done_of, step_of}
 use Rattle.varint.specs.Groups.{groups}
 use Rattle.report.specs.Runs.{runs, tab}
 use Rattle.report.specs.Bytes.{run_bytes, sections_bytes}
-use Rattle.cases.specs.Asks.{Gives, last, answer}
+use Rattle.cases.specs.Asks.{last, answer}
 use Rattle.cases.specs.Table.{Case, table}
 
 -- the whole table at once

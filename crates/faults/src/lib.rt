@@ -46,6 +46,7 @@ pub enum Rule {
 }
 
 // The first rule that an image of so many data bytes breaks, or Sound, exactly where `check_image` says so.
+#[tactic(auto, unfolding(crate::specs::Faults::broken_rule))]
 pub fn broken_rule(im: &[u32], bytes: usize) -> Rule
     ensures { result ≡ broken_rule im.now bytes }
 {
@@ -59,6 +60,7 @@ pub fn broken_rule(im: &[u32], bytes: usize) -> Rule
 }
 
 // From the image's kind and its sections on.
+#[tactic(auto, unfolding(crate::specs::Faults::section_rule))]
 fn section_rule(im: &[u32], bytes: usize) -> Rule
     requires { Laid im.now }
     ensures { result ≡ section_rule im.now bytes }
@@ -82,6 +84,7 @@ fn section_rule(im: &[u32], bytes: usize) -> Rule
 }
 
 // From the further tables on.
+#[tactic(auto, unfolding(crate::specs::Faults::table_rule))]
 fn table_rule(im: &[u32], bytes: usize) -> Rule
     requires { Laid im.now }
     ensures { result ≡ table_rule im.now bytes }
@@ -99,6 +102,7 @@ fn table_rule(im: &[u32], bytes: usize) -> Rule
 }
 
 // The object symbols and the data.
+#[tactic(auto, unfolding(crate::specs::Faults::symbol_rule))]
 fn symbol_rule(im: &[u32], bytes: usize) -> Rule
     requires { Laid im.now }
     ensures { result ≡ symbol_rule im.now bytes }

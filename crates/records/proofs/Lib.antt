@@ -1,6 +1,3 @@
--- What the walks share, and what is shown of the words that are written.
-pub mod Again
-pub mod SearchCode
-pub mod Search
+-- What is shown of the words that are written.
 pub mod WrittenLaws
 pub mod Read

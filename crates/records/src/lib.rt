@@ -1,5 +1,4 @@
 // Section records lent as a slice: the first match by address and by elf number, and the way into the image's words.
-// A function over `&[Section]` is proved by a walk of its code; the tests and stores that it calls are covered.
 #![tactic(auto)]
 
 ghost use Rattle.std.specs.Prelude.{◌≡◌, ◌+◌, ◌*◌, ◌<◌, ◌≤◌, length};

@@ -1,6 +1,6 @@
 -- A map in which runs were marked shows these runs, and its other bits are as they were.
 -- Assumes nothing.
-use mathlib.Core.Path.{◌≡◌, refl, sym, ap, ◌∙◌}
+use mathlib.Core.Path.{◌≡◌, refl, sym, ap, ◌∙◌, subst}
 use mathlib.Core.Bool.{Bool, true, false}
 use mathlib.Core.List.{List, [], ◌∷◌}
 use Prim.Native.Nat.{ℕ, zero, suc, ◌+◌, ◌-◌, ◌*◌, ◌≤◌, ◌<◌}
@@ -55,7 +55,7 @@ marks_shown ws least b left (r ∷ rs) fit clear room =
     let d : ℕ = c + r.len in
     let rest : ℕ = left - r.gap - r.len in
     let whole : with_runs ws b (r ∷ rs) ≡ with_runs m d rs = marks_more ws b r rs in
-    rw whole (
+    subst (λ (z : List ℕ). Shows (visited_at z) b left (r ∷ rs)) (sym whole) (
       (λ i p q. ap (λ (n : ℕ). eqb n 1) (marks_before m d rs i (omega arith) ∙ run_changes_no_other ws c r.len i (λ l. absurd (omega arith)) ∙ clear i p (omega (arith, fit.2)))),
       (λ i p q. ap (λ (n : ℕ). eqb n 1) (marks_before m d rs i q ∙ run_is_set ws c r.len i p q (omega (arith, fit.2)))),
       marks_shown m 1 d rest rs fit.3 (λ i p q. run_changes_no_other ws c r.len i (λ l. p) ∙ clear i (omega arith) (omega (arith, fit.2))) (omega (arith, run_length ws c r.len, fit.2)),
@@ -91,7 +91,7 @@ sections_shown im ws i (rs ∷ rss) fit n clear room =
     let within : b + k ≤ code_words im = words_within im i (omega arith) in
     let whole : with_sections im ws i (rs ∷ rss) ≡ with_sections im m (i + 1) rss = section_marks_more im ws i rs rss in
     let first : Shows (visited_at m) b k rs = marks_shown ws 0 b k rs fit.0 (λ j p q. clear j p (omega arith)) (omega arith) in
-    rw whole (
+    subst (λ (z : List ℕ). AllShow (visited_at z) im i (rs ∷ rss)) (sym whole) (
       shown_along (visited_at m) (visited_at (with_sections im m (i + 1) rss)) 0 b k rs fit.0
           (λ j p q. ap (λ (n : ℕ). eqb n 1) (sections_before im m (i + 1) rss j (omega (arith, words_more im i)))) first,
       sections_shown im m (i + 1) rss fit.1 (omega arith)

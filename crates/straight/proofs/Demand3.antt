@@ -3,7 +3,7 @@
 use mathlib.Core.Path.{◌≡◌, refl, sym, ap, ◌∙◌, subst}
 use mathlib.Core.Bool.{Bool, true, false}
 use mathlib.Core.List.{List}
-use Prim.Native.Nat.{ℕ, zero, suc, ◌+◌, ◌-◌, ◌%◌, ◌^◌, ◌<◌, min, max}
+use Prim.Native.Nat.{ℕ, zero, suc, ◌+◌, ◌%◌, ◌^◌, ◌<◌, min, max}
 use native.Mathlib.Nat.{mod-lt}
 use native.Mathlib.Omega.{arith}
 use borrow.Author.Tests.{eqb-true, eqb-false}
@@ -12,12 +12,10 @@ use lib.Pow.{pow_pos}
 use lib.ListN.{length, get_or, set, length-set}
 use lib.Seq.{get_or-set_same, get_or-set_other}
 use Rattle.words.specs.Choice.{pick}
-use Rattle.words.specs.Word.{bit, field}
-use Rattle.words.specs.Bits.{number}
+use Rattle.words.specs.Word.{bit}
 use Rattle.words.proofs.Fields.{field_lt}
 use Rattle.words.proofs.Number.{number_lt}
 use Rattle.places.specs.declared.SectionAddress.{SectionAddress}
-use Rattle.image.specs.Rules.{sound}
 use Rattle.lookups.specs.declared.CodePlace.{CodePlace}
 use Rattle.lookups.specs.Code.{code_place}
 use Rattle.vm.specs.declared.VM.{VM}
@@ -25,12 +23,11 @@ use Rattle.vm.specs.declared.Gpr.{Gpr}
 use Rattle.vm.specs.declared.GprValue.TheVariants.{Constant}
 use Rattle.vm.specs.Registers.{blank, reg, with_reg}
 use Rattle.step.specs.declared.Stepped.{Stepped}
-use Rattle.step.specs.declared.StepResult.TheVariants.{Continue}
-use Rattle.step.specs.Step.{goes_on, step_of, placed_of, refused_of, stepped_of}
+use Rattle.step.specs.Step.{goes_on, placed_of, refused_of}
 use Rattle.step.specs.declared.Refusal.TheVariants.{BrokenImage}
-use Rattle.straight.specs.Manual.{Kind, add, addi, addic, addic_dot, addis, subf, subfc, subfic, ori, orr, rlwinm, rlwnm, exts, shifted_simm, uimm, not, or, masked, rotate_and_mask, Is, destination, result, executed, gpr}
+use Rattle.straight.specs.Manual.{Kind, add, addi, addic, addic_dot, addis, subf, subfc, subfic, ori, orr, rlwinm, rlwnm, or, masked, rotate_and_mask, destination, result, executed, gpr}
 use Rattle.straight.specs.Run.{place_of, word_of, StraightRun, step_at, state_after, machine_after, Machine}
-use Rattle.straight.specs.Demand3.{Holds, IsConstant, OnlyChanges, AtWord, Demand3, Whole, Demanded}
+use Rattle.straight.specs.Demand3.{Holds, OnlyChanges, AtWord, Whole, Demanded}
 use Rattle.straight.proofs.Steps.{bare_has_none, record_of, steps_on}
 use Rattle.straight.proofs.Holding.{number_put, constant_put}
 

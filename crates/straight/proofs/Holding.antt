@@ -3,7 +3,7 @@
 use mathlib.Core.Path.{◌≡◌, refl, sym, ap, ap₂, ◌∙◌}
 use mathlib.Core.Bool.{Bool, true, false}
 use mathlib.Core.List.{List, [], ◌∷◌}
-use Prim.Native.Nat.{ℕ, ◌+◌, ◌*◌, ◌%◌, ◌^◌, ◌<◌}
+use Prim.Native.Nat.{ℕ, ◌*◌, ◌%◌, ◌^◌, ◌<◌}
 use native.Mathlib.Omega.{arith}
 use borrow.Author.Tests.{eqb-true}
 use lib.Dec.{eqb}
@@ -16,13 +16,13 @@ use Rattle.words.proofs.Fields.{field_lt}
 use Rattle.places.specs.declared.SectionAddress.{SectionAddress}
 use Rattle.vm.specs.declared.VM.{VM}
 use Rattle.vm.specs.declared.GprValue.{GprValue}
-use Rattle.vm.specs.declared.GprValue.TheVariants.{Unknown, Constant}
+use Rattle.vm.specs.declared.GprValue.TheVariants.{Constant}
 use Rattle.vm.specs.Registers.{reg, direct, high, low}
 use Rattle.vm.specs.Rules.{add_of, addis_of, addi_of, subf_of, subfic_of, ori_of, or_of, rotate_of, rlwnm_of}
 use Rattle.step.specs.Arms.{rd_of, ra_of, rb_of, uimm_of, addis_gpr, addi_gpr, ori_gpr, or_gpr}
-use Rattle.straight.specs.Manual.{Kind, add, addi, addic, addic_dot, addis, subf, subfc, subfic, ori, orr, rlwinm, rlwnm, exts, shifted_simm, uimm, plus, not, or, rotate_and_mask, gpr, unless_zero, or_zero, sources, result}
+use Rattle.straight.specs.Manual.{Kind, add, addi, addic, addic_dot, addis, subf, subfc, subfic, ori, orr, rlwinm, rlwnm, exts, shifted_simm, uimm, plus, not, or, rotate_and_mask, gpr, sources, result}
 use Rattle.straight.specs.Run.{Machine}
-use Rattle.straight.specs.Demand3.{Holds, IsConstant, AllConstant}
+use Rattle.straight.specs.Demand3.{Holds, AllConstant}
 use Rattle.straight.proofs.ManualLaws.{exts_law, shifted_law, uimm_law, not_law, or_law, rotate_law, rotate_low}
 use Rattle.straight.proofs.Values.{same_constant, offset_is_not, range_is_not, of_constant, of_place, of_rotated}
 use Rattle.straight.proofs.Steps.{record_of}

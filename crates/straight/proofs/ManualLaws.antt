@@ -3,17 +3,17 @@
 use mathlib.Core.Path.{◌≡◌, refl, sym, ap, ap₂, ◌∙◌}
 use mathlib.Core.Bool.{Bool, true, false}
 use Prim.Native.Nat.{ℕ, zero, suc, ◌+◌, ◌-◌, ◌*◌, ◌/◌, ◌%◌, ◌^◌, ◌≤◌, ◌<◌, min, max}
-use native.Mathlib.Nat.{mod-lt, div-one, mul-zero, zero-mul}
+use native.Mathlib.Nat.{mod-lt, div-one}
 use native.Mathlib.Omega.{arith}
 use borrow.Author.Tests.{lt-ltb, le-ltb, ltb-true, ltb-false}
-use lib.Dec.{ltb, leb, eqb, eqb→eq, lit<}
+use lib.Dec.{ltb, eqb, eqb→eq, lit<}
 use lib.Arith.{digits_mod, digits_div}
 use lib.Bits.{bit_and, bit_or, or_step}
 use Rattle.words.specs.Choice.{pick}
-use Rattle.words.specs.Word.{bit, field, extended, simm_of}
+use Rattle.words.specs.Word.{bit, field, simm_of}
 use Rattle.words.specs.Bits.{number, in_mask, mask_of, rotated}
 use Rattle.words.specs.Sums.{complement_of}
-use Rattle.words.proofs.Number.{number_ext, number_split, number_field, number_word, number_and, number_lt}
+use Rattle.words.proofs.Number.{number_ext, number_split, number_field, number_word, number_and}
 use Rattle.words.proofs.Fields.{field_lt}
 use Rattle.words.proofs.Tests.{all, below}
 use Rattle.straight.specs.Manual.{exts, shifted_simm, uimm, not, or, masked, rotate_and_mask}

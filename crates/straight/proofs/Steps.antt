@@ -1,6 +1,6 @@
 -- A word of the twelve kinds with no relocation puts one record into its destination and goes on.
 -- Assumes nothing.
-use mathlib.Core.Path.{◌≡◌, refl, sym, ap, ◌∙◌}
+use mathlib.Core.Path.{◌≡◌, refl, ap, ◌∙◌}
 use mathlib.Core.Bool.{Bool, true, false}
 use mathlib.Core.List.{List}
 use Prim.Native.Nat.{ℕ}
@@ -16,18 +16,16 @@ use Rattle.search.specs.First.{on_found}
 use Rattle.decoder.specs.declared.Op.{Op}
 use Rattle.decoder.specs.Decode.{decoded}
 use Rattle.image.specs.Layout.{sections, section_at, bound_at, unbound_at}
-use Rattle.lookups.specs.declared.Relocation.{Relocation}
 use Rattle.lookups.specs.declared.Relocation.TheVariants.{Nothing}
 use Rattle.lookups.specs.declared.Wanted.TheVariants.{Any}
 use Rattle.lookups.specs.Relocations.{relocation_for, bound_target, unbound_target, bound_index, unbound_index, known, target_at}
 use Rattle.vm.specs.declared.VM.{VM}
 use Rattle.vm.specs.declared.Gpr.{Gpr}
-use Rattle.vm.specs.declared.GprValue.TheVariants.{Constant}
-use Rattle.vm.specs.Registers.{direct, low, reg, with_reg}
-use Rattle.vm.specs.Rules.{add_of, addi_of, subf_of, subfic_of, ori_of, rotate_of, rlwnm_of}
+use Rattle.vm.specs.Registers.{direct, reg, with_reg}
+use Rattle.vm.specs.Rules.{add_of, subf_of, subfic_of, rotate_of, rlwnm_of}
 use Rattle.step.specs.declared.Effect.{Effect}
 use Rattle.step.specs.declared.Effect.TheVariants.{SetD, SetA}
-use Rattle.step.specs.Arms.{rd_of, ra_of, rb_of, uimm_of, addis_gpr, addi_gpr, ori_gpr, or_gpr, effect_by}
+use Rattle.step.specs.Arms.{rd_of, ra_of, rb_of, addis_gpr, addi_gpr, ori_gpr, or_gpr, effect_by}
 use Rattle.step.specs.Step.{goes_on, done_of, step_of}
 use Rattle.straight.specs.Manual.{Kind, add, addi, addic, addic_dot, addis, subf, subfc, subfic, ori, orr, rlwinm, rlwnm, Is, destination}
 use Rattle.straight.specs.Run.{Bare}

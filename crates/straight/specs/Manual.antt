@@ -1,6 +1,6 @@
 -- The machine of the PowerPC 32-bit Programming Environments Manual, as far as demand 3 goes: thirty-two registers, and
 -- what twelve kinds of words do to them, each as the manual writes it, bit by bit. Assumes nothing.
-use Rattle.std.specs.Prelude.{ℕ, ◌+◌, ◌-◌, ◌%◌, ◌^◌, min, max, Bool, List, [], ◌∷◌, ◌≡◌, get_or, set, leb, ltb, eqb}
+use Rattle.std.specs.Prelude.{ℕ, ◌+◌, ◌-◌, ◌%◌, ◌^◌, min, max, List, [], ◌∷◌, ◌≡◌, get_or, set, leb, ltb, eqb}
 use Rattle.words.specs.Choice.{pick}
 use Rattle.words.specs.Word.{bit, field}
 use Rattle.words.specs.Bits.{number}

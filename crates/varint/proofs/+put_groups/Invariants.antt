@@ -1,0 +1,4 @@
+use Rattle.varint.proofs.+put_groups.Given as goal
+
+abbrev pub decreases-put_groups : goal.decreases-put_groups
+decreases-put_groups l = l.left
