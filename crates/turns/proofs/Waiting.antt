@@ -63,6 +63,7 @@ module _ {P S A O E M : Type 0} (g : Ground P S A O E M) (laws : Lawful g) where
       (subst (λ (y : P). Some (At q) (push_at g y s k).stack) e
       (push_waits q s k w (subst (λ (y : P). (push_at g y s k).full ≡ false) (sym e) (pushes_open s xs (push_at g x s k) h))))
   pushes_wait q s (x ∷ xs) k w (Memᴰ.tail m) h = pushes_wait q s xs (push_at g x s k) w m h
+  pushes_wait q s [] k w x3 h = elim x3 [ ]
 
   -- the places that a way leads to
   pub data Through (q : P) : Way P S A → Type 0 where
@@ -87,3 +88,4 @@ module _ {P S A O E M : Type 0} (g : Ground P S A O E M) (laws : Lawful g) where
       takes_keep q p ys (take_way g p x k)
       (way_waits q p x k w (subst (Through q) e u) (takes_open p ys (take_way g p x k) h))
   takes_wait q p (x ∷ ys) k w (Memᴰ.tail m) u h = takes_wait q p ys (take_way g p x k) w m u h
+  takes_wait q p {y = y} [] k w x4 u h = elim x4 [ ]
