@@ -1,0 +1,11 @@
+-- The word read is the four bytes at its place.
+use mathlib.Core.Path.{ap, ◌∙◌}
+use borrow.Author.Rules.{rules}
+use Rattle.visited.specs.Bits.{with_bit}
+use Rattle.executor.proofs.Judging.{word_fine, word_in_code, word_read}
+use Rattle.executor.proofs.stepping.step_at.Goals as goal
+
+pub returns : goal.returns
+returns c =
+    let w = word_read c.args.im.now c.args.bytes.now c.args.at c.code_word.result c.requires.0 c.requires.1 c.requires.2 c.code_word.ensures in
+    (rw (c.state_after.ensures, c.step_word-stepped.ensures, w), c.insert.ensures ∙ ap (with_bit c.args.map.now) c.word_number.ensures)
