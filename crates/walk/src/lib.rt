@@ -59,7 +59,7 @@ pub fn walk(
     stack: &mut [u32],
     entries: &mut [u64; TABLE_ROOM],
 ) -> Walked
-    ensures* { λ r. ⌜ walked (given im.now «data».now (places_of starts.now) two thirteen from upto) map.old (record { stack = stack.entry.now; entries = entries.old }) ≡ record { result = r; vis = map.new; lent = record { stack = stack.exit.now; entries = entries.new } } ⌝ }
+    ensures { walked (given im.now «data».now (places_of starts.now) two thirteen from upto) map.old (record { stack = stack.old; entries = entries.old }) ≡ record { result = result; vis = map.new; lent = record { stack = stack.new; entries = entries.new } } }
 {
     let b = begin(im, data, starts, two, thirteen, map, stack);
     let a = b.answer;
