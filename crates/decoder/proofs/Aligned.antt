@@ -6,7 +6,7 @@ use Prim.Native.Nat.{ℕ, ◌*◌, ◌%◌, ◌^◌}
 use native.Mathlib.Omega.{arith}
 use lib.Dec.{eqb, ltb}
 use Rattle.words.specs.Choice.{pick}
-use Rattle.words.specs.Word.{field, flag, extended, li_of, bd_of}
+use Rattle.words.specs.Word.{field, flag, li_of, bd_of}
 use Rattle.words.specs.Sums.{sum}
 use Rattle.decoder.specs.Decode.{displacement_of, branch_dest}
 

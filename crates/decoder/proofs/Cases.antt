@@ -1,7 +1,6 @@
 -- Worked words, by computation: document 01's own, both ends of each displacement, words on either side of a rule.
 -- Assumes nothing.
 use mathlib.Core.Path.{◌≡◌, refl, sym, ap, ◌∙◌}
-use mathlib.Core.Bool.{true}
 use mathlib.Core.List.{List, [], ◌∷◌, map}
 use Prim.Native.Nat.{ℕ, ◌%◌}
 use lib.Dec.{eqb, eqb→eq, lit≤}

@@ -13,9 +13,9 @@ use lib.ListN.{get_or}
 use Rattle.words.specs.Choice.{pick}
 use Rattle.words.specs.Word.{field}
 use Rattle.words.proofs.Tabulate.{tabulate, get_d_tabulate}
-use Rattle.decoder.specs.Ops.{number_of, names, kind_number, kinds}
+use Rattle.decoder.specs.Ops.{names, kind_number, kinds}
 use Rattle.decoder.specs.Table.{Row, rows, first, coded}
-use Rattle.decoder.specs.Decode.{has_extended, extended_in, row_of}
+use Rattle.decoder.specs.Decode.{has_extended, row_of}
 use Rattle.decoder.specs.declared.Op.TheVariants.{Illegal}
 use Rattle.decoder.specs.declared.Writes.TheVariants.{Nothing}
 use Rattle.decoder.proofs.Names.{named, number_lt, kind_named}

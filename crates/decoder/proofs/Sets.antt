@@ -1,14 +1,14 @@
 -- Sets of registers as numbers: what is in them, and how shifts make them.
 -- Assumes nothing.
-use mathlib.Core.Path.{◌≡◌, refl, sym, ap, ap₂, ◌∙◌, subst}
+use mathlib.Core.Path.{◌≡◌, refl, sym, ap, ◌∙◌, subst}
 use mathlib.Core.Bool.{Bool, true, false, ◌||◌}
-use Prim.Native.Nat.{ℕ, zero, suc, ◌+◌, ◌-◌, ◌*◌, ◌/◌, ◌%◌, ◌^◌, ◌≤◌, ◌<◌}
-use native.Mathlib.Nat.{add_comm, one-mul, zero-mul, div-one, mod-eq_of_lt, pow-suc}
+use Prim.Native.Nat.{ℕ, zero, suc, ◌+◌, ◌-◌, ◌*◌, ◌/◌, ◌%◌, ◌^◌, ◌<◌}
+use native.Mathlib.Nat.{add_comm, one-mul, zero-mul, mod-eq_of_lt, pow-suc}
 use native.Mathlib.Decide.{dec_lt}
 use native.Mathlib.Omega.{arith}
-use lib.Dec.{T, eqb, eqb→eq}
+use lib.Dec.{eqb, eqb→eq}
 use lib.Bits.{bit_or}
-use lib.Pow.{pow_pos, pow-lt, high, low, field, mod-mod-pow}
+use lib.Pow.{high, low, field, mod-mod-pow}
 use Rattle.words.specs.Choice.{pick}
 use Rattle.words.proofs.Tests.{all, below}
 use Rattle.decoder.specs.Written.{writes, set_of, in_set, written_set}

@@ -1,6 +1,6 @@
 -- The general registers that a word writes, and sets of registers as numbers.
 -- Assumes nothing.
-use Rattle.std.specs.Prelude.{ℕ, zero, suc, ◌+◌, ◌-◌, ◌/◌, ◌%◌, ◌^◌, Bool, true, false, ◌||◌, List, [], ◌∷◌, eqb}
+use Rattle.std.specs.Prelude.{ℕ, zero, suc, ◌+◌, ◌-◌, ◌/◌, ◌%◌, ◌^◌, Bool, false, ◌||◌, List, [], ◌∷◌, eqb}
 use Rattle.std.specs.Int.Count.{count_trailing_zeros}
 use Rattle.words.specs.Choice.{pick}
 use Rattle.words.specs.Word.{field}

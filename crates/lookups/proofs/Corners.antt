@@ -21,7 +21,7 @@ use Rattle.image.specs.Numbers.{no_section}
 use Rattle.image.specs.Layout.{image_kind, module_number, sections, section_at, bound_at, unbound_at}
 use Rattle.image.specs.Rules.{holds, elf_index}
 use Rattle.lookups.specs.declared.Wanted.{Wanted}
-use Rattle.lookups.specs.declared.Relocation.TheVariants.{Nothing, Error, To}
+use Rattle.lookups.specs.declared.Relocation.TheVariants.{Error, To}
 use Rattle.lookups.specs.Sections.{at_address}
 use Rattle.lookups.specs.Relocations.{differs, bound_index, bound_target, unbound_index, unbound_target, into_section, relocation_for, target_at, place_in, section_address_for}
 

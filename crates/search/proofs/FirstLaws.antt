@@ -1,13 +1,12 @@
 -- First matches, as a loop meets them: a hit, a miss, the end; and what a first match is.
 -- Assumes nothing.
-use mathlib.Core.Path.{◌≡◌, refl, sym, ap, ◌∙◌}
+use mathlib.Core.Path.{◌≡◌, ◌∙◌}
 use mathlib.Core.Bool.{Bool, true, false}
-use Prim.Native.Nat.{ℕ, zero, suc, ◌+◌, ◌-◌, ◌≤◌, ◌<◌}
+use Prim.Native.Nat.{ℕ, suc, ◌+◌, ◌-◌, ◌≤◌, ◌<◌}
 use native.Mathlib.Omega.{arith}
 use native.Mathlib.Numerals.{add-one}
 use Rattle.words.specs.Choice.{pick}
 use Rattle.search.specs.First.{first_from, first}
-use Rattle.search.specs.declared.Found.{Found}
 use Rattle.search.specs.declared.Found.TheVariants.{At, Nothing}
 
 -- one number is looked at

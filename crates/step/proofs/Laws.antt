@@ -1,6 +1,6 @@
 -- What the layers above use of a step: whole states stay whole, and the paper's number of each answer.
 -- Assumes nothing.
-use mathlib.Core.Path.{◌≡◌, refl, sym, ap, ◌∙◌}
+use mathlib.Core.Path.{◌≡◌, refl, ap, ◌∙◌}
 use mathlib.Core.Bool.{Bool, true, false}
 use mathlib.Core.List.{List, [], ◌∷◌}
 use Prim.Native.Nat.{ℕ, suc}
@@ -24,8 +24,8 @@ use Rattle.step.specs.declared.Effect.TheVariants.{Nothing, SetD, SetA, Compare,
 use Rattle.step.specs.declared.Leave.{Leave}
 use Rattle.step.specs.declared.Leave.TheVariants.{Ended, Illegal, Jump, Call, Fork, Both}
 use Rattle.step.specs.declared.Stepped.{Stepped}
-use Rattle.step.specs.Ways.{leave_of, left_of}
-use Rattle.step.specs.Step.{access_result, cleared_of, done_of, effect_in, step_of, placed_of, stepped_of, answer_of}
+use Rattle.step.specs.Ways.{left_of}
+use Rattle.step.specs.Step.{access_result, cleared_of, done_of, step_of, placed_of, stepped_of, answer_of}
 
 length_blank : {A : Type 0} (b : A) (f : ℕ → Bool) (i : ℕ) (xs : List A) → length (blank_where b f i xs) ≡ length xs
 unfolding blank_where

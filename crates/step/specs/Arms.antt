@@ -14,7 +14,7 @@ use Rattle.decoder.specs.declared.Op.TheVariants as op
 use Rattle.decoder.specs.Class.{is_load, is_update}
 use Rattle.lookups.specs.Relocations.{target_at, section_address_for}
 use Rattle.vm.specs.declared.GprValue.{GprValue}
-use Rattle.vm.specs.declared.GprValue.TheVariants.{Unknown, Constant, Address, ComparisonResult}
+use Rattle.vm.specs.declared.GprValue.TheVariants.{Constant, Address, ComparisonResult}
 use Rattle.vm.specs.declared.Gpr.{Gpr}
 use Rattle.vm.specs.Registers.{direct, high, low, marked, blank}
 use Rattle.vm.specs.Rules.{add_of, addis_of, addi_of, subf_of, subfic_of, ori_of, or_of, rotate_of, rlwnm_of, lwzx_of, address_of, seen_of, base_of}

@@ -6,14 +6,12 @@ use Rattle.places.specs.Places.{moved}
 use Rattle.places.specs.declared.SectionAddress.{SectionAddress}
 use Rattle.vm.specs.declared.VM.{VM}
 use Rattle.vm.specs.Registers.{cr_at}
-use Rattle.step.specs.declared.Way.{Way}
 use Rattle.step.specs.declared.Effect.{Effect}
 use Rattle.step.specs.declared.Effect.TheVariants.{Nothing, SetD, SetA, Compare, ToLr, ToCtr, FromLr, FromCtr, Load, Store, Clear, Leaves}
 use Rattle.step.specs.declared.Leave.{Leave}
 use Rattle.step.specs.declared.Leave.TheVariants.{Ended}
 use Rattle.step.specs.declared.StepResult.{StepResult}
 use Rattle.step.specs.declared.StepResult.TheVariants as result
-use Rattle.step.specs.declared.Stepped.{Stepped}
 use Rattle.step.specs.declared.Stopped.{Stopped}
 use Rattle.step.specs.Ways.{bi_of, leave_of}
 use Rattle.step.specs.Step.{effect_in, step_of}

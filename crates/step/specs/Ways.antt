@@ -5,7 +5,6 @@ use Rattle.std.specs.Int.Bits.{bit_and}
 use Rattle.words.specs.Choice.{pick}
 use Rattle.words.specs.Word.{field, flag}
 use Rattle.places.specs.declared.SectionAddress.{SectionAddress}
-use Rattle.places.specs.declared.RelocationTarget.{RelocationTarget}
 use Rattle.places.specs.declared.RelocationTarget.TheVariants as target
 use Rattle.places.specs.declared.MaybeTarget.{MaybeTarget}
 use Rattle.places.specs.Places.{moved}
@@ -20,7 +19,6 @@ use Rattle.vm.specs.declared.VM.{VM}
 use Rattle.vm.specs.Rules.{reached_of, size_of}
 use Rattle.vm.specs.Splits.{split_of}
 use Rattle.vm.specs.States.{link_of, return_of, with_result}
-use Rattle.step.specs.declared.Branch.{Branch}
 use Rattle.step.specs.declared.StepResult.{StepResult}
 use Rattle.step.specs.declared.StepResult.TheVariants as result
 use Rattle.step.specs.declared.Stepped.{Stepped}

@@ -4,7 +4,7 @@ use mathlib.Core.Path.{◌≡◌, refl, ◌∙◌}
 use mathlib.Core.List.{List}
 use Prim.Native.Nat.{ℕ}
 use native.Mathlib.Omega.{arith}
-use lib.ListN.{length, take, drop, set, length-set, length-map, length-append, length-take, length-drop}
+use lib.ListN.{length, length-set, length-map, length-append, length-take, length-drop}
 use Rattle.vm.specs.declared.GprValue.{GprValue}
 use Rattle.vm.specs.declared.Gpr.{Gpr}
 use Rattle.vm.specs.declared.Cr.{Cr}

@@ -1,6 +1,6 @@
 -- The rules on values, in the order of vm.rs, each under its assembly form.
 -- Assumes nothing. Numbers are words: sums are modulo 2^32.
-use Rattle.std.specs.Prelude.{ℕ, ◌+◌, ◌*◌, ◌%◌, ◌^◌, Bool, true, false, ◌&&◌, eqb, ltb}
+use Rattle.std.specs.Prelude.{ℕ, ◌+◌, ◌*◌, ◌%◌, ◌^◌, Bool, ◌&&◌, eqb, ltb}
 use Rattle.std.specs.Int.Bits.{bit_or, bit_and}
 use Rattle.words.specs.Choice.{pick}
 use Rattle.words.specs.Sums.{sum, complement_of}

@@ -1,6 +1,6 @@
 -- The complement is what is left to a word of ones, and subf's sum is the difference.
 -- Assumes nothing.
-use Rattle.std.proofs.Common.{◌≡◌, ℕ, zero, suc, ◌+◌, ◌-◌, ◌*◌, ◌/◌, ◌%◌, ◌^◌, ◌<◌, ◌≤◌, sym, refl, ap, ◌∙◌, mod-lt, pow-suc, arith, lit<, pow_pos}
+use Rattle.std.proofs.Common.{◌≡◌, ℕ, zero, suc, ◌+◌, ◌-◌, ◌/◌, ◌^◌, ◌<◌, refl, mod-lt, pow-suc, arith, lit<}
 use Rattle.words.specs.Word.{bit}
 use Rattle.words.specs.Bits.{number}
 use Rattle.words.specs.Sums.{sum, complement_of, difference}

@@ -1,6 +1,6 @@
 -- The rotation by two shifts and an or is the manual's.
 -- Assumes nothing.
-use Rattle.std.proofs.Common.{◌≡◌, ℕ, zero, suc, ◌+◌, ◌-◌, ◌*◌, ◌/◌, ◌%◌, ◌^◌, ◌<◌, ◌≤◌, sym, refl, ap, ◌∙◌, subst, ap₂, add-zero, mod-lt, mod-eq_of_lt, add_comm, div-one, arith, pow_pos, pow-add, shr_lt}
+use Rattle.std.proofs.Common.{◌≡◌, ℕ, ◌+◌, ◌-◌, ◌*◌, ◌/◌, ◌%◌, ◌^◌, ◌<◌, sym, ap, ◌∙◌, subst, ap₂, add-zero, mod-eq_of_lt, add_comm, div-one, arith, shr_lt}
 use native.Mathlib.Nat.{mul-mod_left}
 use lib.Pow.{shl-shr, mod-pow-add}
 use lib.Bits.{bit_or, or_shifted}

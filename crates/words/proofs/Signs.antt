@@ -1,6 +1,6 @@
 -- Sign extension keeps the number that the bits stand for, and a sum with a word is a sum with the signed number that
 -- it stands for. Once over the width; the ends of the widths in use by computation. Assumes nothing.
-use Rattle.std.proofs.Common.{◌≡◌, ℕ, suc, ◌+◌, ◌-◌, ◌*◌, ◌%◌, ◌^◌, ◌<◌, ◌≤◌, Bool, true, false, ltb, ℤ, pos, negsuc, sym, refl, ap, ◌∙◌, pow-suc, arith, pow_mono, ltb-false, ltb-true, le-ltb, lt-ltb}
+use Rattle.std.proofs.Common.{◌≡◌, ℕ, suc, ◌+◌, ◌-◌, ◌*◌, ◌^◌, ◌<◌, ◌≤◌, Bool, true, false, ltb, pos, negsuc, refl, ap, ◌∙◌, pow-suc, arith, pow_mono, ltb-false, ltb-true, le-ltb, lt-ltb}
 use Rattle.words.specs.Choice.{pick}
 use Rattle.words.specs.Word.{extended}
 use Rattle.words.specs.Sums.{sum}

@@ -1,5 +1,4 @@
 -- The entry of the word's row holds its operation and its kind.
-use borrow.Author.Rules.{rules}
 use mathlib.Core.Path.{ap, ap₂, ◌∙◌}
 use Prim.Native.Nat.{ℕ, ◌/◌, ◌%◌}
 use lib.ListN.{get_or}

@@ -1,5 +1,4 @@
 -- The entry of the word's row holds its operation's number below 64.
-use borrow.Author.Rules.{rules}
 use mathlib.Core.Path.{ap, ◌∙◌}
 use Prim.Native.Nat.{ℕ, ◌%◌}
 use lib.Arith.{digits_mod}

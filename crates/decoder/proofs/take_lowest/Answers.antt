@@ -1,12 +1,10 @@
 -- `decoder::take_lowest` meets its contract. A set that is not empty has a lowest register below 32, which is in it.
-use borrow.Author.Rules.{rules}
 use mathlib.Core.Path.{◌≡◌, sym, ap, ◌∙◌, subst}
-use Prim.Native.Nat.{ℕ, ◌-◌, ◌*◌, ◌%◌, ◌^◌, ◌<◌, ◌≤◌}
-use native.Mathlib.Nat.{one-mul, mod-eq_of_lt, le_trans}
+use Prim.Native.Nat.{ℕ, ◌*◌, ◌%◌, ◌^◌, ◌<◌, ◌≤◌}
+use native.Mathlib.Nat.{one-mul, mod-eq_of_lt}
 use native.Mathlib.Omega.{arith}
 use lib.Pow.{pow-lt}
-use lib.Count.{count_trailing_zeros, trailing_le}
-use Rattle.decoder.specs.declared.Taken.{Taken}
+use lib.Count.{count_trailing_zeros}
 use Rattle.decoder.specs.Written.{lowest_of}
 use Rattle.decoder.proofs.Lowest.{lowest_lt, lowest_in, at_least}
 use Rattle.decoder.proofs.take_lowest.Goals as goal

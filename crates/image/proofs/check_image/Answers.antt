@@ -1,6 +1,5 @@
 -- `image::check_image` meets its contract: sound tables, then the data; sound tables are laid out.
 use mathlib.Core.Path.{sym, ◌∙◌}
-use borrow.Author.Rules.{rules}
 use Rattle.image.proofs.SoundTables.{laid}
 use Rattle.image.proofs.check_image.Goals as goal
 

@@ -1,10 +1,8 @@
 -- A broken image is 1; a sound one is read as table_in reads it.
 use mathlib.Core.Path.{sym, ap, ◌∙◌}
 use lib.ListN.{length}
-use Rattle.image.proofs.SoundTables.{tables_of_sound, data_of_sound}
 use Rattle.jump_tables.specs.Tables.{Outcome}
 use Rattle.jump_tables.proofs.Outcomes.{judged_sound, judged_broken, broken_is_1, sound_is_read}
-use borrow.Author.Rules.{rules}
 use Rattle.jump_tables.proofs.uniq_jump_table_entries.Goals as goal
 
 pub returns-in-Broken : goal.returns-in-Broken

@@ -1,11 +1,8 @@
 -- `visited::clear` meets its contract.
-use mathlib.Core.Path.{◌≡◌, refl, sym, ◌∙◌}
-use Prim.Native.Nat.{◌-◌, ◌*◌, ◌≤◌}
+use mathlib.Core.Path.{sym, ◌∙◌}
 use native.Mathlib.Omega.{arith}
-use lib.ListN.{length, length-set}
-use borrow.Author.Rules.{rules}
-use Rattle.visited.specs.Bits.{cleared}
-use Rattle.visited.proofs.Clearing.{partly, cleared_begins, cleared_one_more, cleared_ends}
+use lib.ListN.{length-set}
+use Rattle.visited.proofs.Clearing.{cleared_one_more, cleared_ends}
 use Rattle.visited.proofs.clear.Goals as goal
 
 pub loop-i-preserved : goal.loop-i-preserved

@@ -1,11 +1,9 @@
 -- `visited::clear` meets its contract.
-use mathlib.Core.Path.{◌≡◌, refl, sym, ◌∙◌}
+use mathlib.Core.Path.{◌≡◌}
 use Prim.Native.Nat.{◌-◌, ◌*◌, ◌≤◌}
-use native.Mathlib.Omega.{arith}
-use lib.ListN.{length, length-set}
-use borrow.Author.Rules.{rules}
+use lib.ListN.{length}
 use Rattle.visited.specs.Bits.{cleared}
-use Rattle.visited.proofs.Clearing.{partly, cleared_begins, cleared_one_more, cleared_ends}
+use Rattle.visited.proofs.Clearing.{partly}
 use Rattle.visited.proofs.clear.Given as goal
 
 abbrev pub invariant-loop-i : goal.invariant-loop-i

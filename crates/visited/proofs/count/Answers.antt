@@ -1,9 +1,7 @@
 -- `visited::count` meets its contract.
 use mathlib.Core.Path.{◌≡◌, sym, ap, ◌∙◌}
-use Prim.Native.Nat.{◌+◌, ◌-◌, ◌*◌, ◌≤◌, min}
+use Prim.Native.Nat.{◌+◌, ◌*◌, min}
 use native.Mathlib.Omega.{arith}
-use lib.ListN.{length}
-use borrow.Author.Rules.{rules}
 use Rattle.visited.specs.Bits.{ones_below}
 use Rattle.visited.proofs.Counting.{ones_at_most, counted_one_more, counted_whole}
 use Rattle.visited.proofs.count.Goals as goal

@@ -1,11 +1,8 @@
 -- `visited::count` meets its contract.
-use mathlib.Core.Path.{◌≡◌, sym, ap, ◌∙◌}
-use Prim.Native.Nat.{◌+◌, ◌-◌, ◌*◌, ◌≤◌, min}
-use native.Mathlib.Omega.{arith}
+use mathlib.Core.Path.{◌≡◌}
+use Prim.Native.Nat.{◌-◌, ◌*◌, ◌≤◌, min}
 use lib.ListN.{length}
-use borrow.Author.Rules.{rules}
 use Rattle.visited.specs.Bits.{ones_below}
-use Rattle.visited.proofs.Counting.{ones_at_most, counted_one_more, counted_whole}
 use Rattle.visited.proofs.count.Given as goal
 
 abbrev pub invariant-loop-i : goal.invariant-loop-i

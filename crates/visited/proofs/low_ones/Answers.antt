@@ -1,13 +1,11 @@
 -- `visited::low_ones` meets its contract.
 use mathlib.Core.Path.{◌≡◌, sym, ap, ◌∙◌}
-use Prim.Native.Nat.{ℕ, ◌*◌, ◌%◌, ◌^◌, min}
-use native.Mathlib.Nat.{mod-le, mod-eq_of_lt, lt_of_le_of_lt}
+use Prim.Native.Nat.{ℕ, ◌%◌, min}
+use native.Mathlib.Nat.{mod-eq_of_lt}
 use native.Mathlib.Omega.{arith}
-use lib.Pow.{pow_pos}
 use lib.Count.{ones}
-use borrow.Author.Rules.{rules}
 use Rattle.visited.specs.Bits.{low_ones}
-use Rattle.visited.proofs.Counting.{low_ones_counted, few_ones}
+use Rattle.visited.proofs.Counting.{low_ones_counted}
 use Rattle.visited.proofs.BitLaws.{one_shl}
 use Rattle.visited.proofs.low_ones.Goals as goal
 

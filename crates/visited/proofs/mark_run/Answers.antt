@@ -1,11 +1,8 @@
 -- `visited::mark_run` meets its contract.
-use mathlib.Core.Path.{◌≡◌, refl, sym, ap, ◌∙◌}
-use Prim.Native.Nat.{◌-◌, ◌≤◌}
+use mathlib.Core.Path.{refl, sym}
 use native.Mathlib.Omega.{arith}
-use lib.ListN.{length}
-use borrow.Author.Rules.{rules}
 use Rattle.visited.specs.Bits.{with_run}
-use Rattle.visited.proofs.BitLaws.{run_one_more, run_length, run_past_end}
+use Rattle.visited.proofs.BitLaws.{run_one_more, run_past_end}
 use Rattle.visited.proofs.mark_run.Goals as goal
 
 pub returns-then-map-b : goal.returns-then-map-b

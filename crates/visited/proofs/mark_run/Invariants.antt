@@ -1,11 +1,7 @@
 -- `visited::mark_run` meets its contract.
-use mathlib.Core.Path.{◌≡◌, refl, sym, ap, ◌∙◌}
+use mathlib.Core.Path.{◌≡◌}
 use Prim.Native.Nat.{◌-◌, ◌≤◌}
-use native.Mathlib.Omega.{arith}
-use lib.ListN.{length}
-use borrow.Author.Rules.{rules}
 use Rattle.visited.specs.Bits.{with_run}
-use Rattle.visited.proofs.BitLaws.{run_one_more, run_length, run_past_end}
 use Rattle.visited.proofs.mark_run.Given as goal
 
 abbrev pub invariant-loop-j : goal.invariant-loop-j

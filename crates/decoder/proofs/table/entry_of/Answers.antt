@@ -1,11 +1,10 @@
 -- `decoder::table::entry_of` meets its contract. 19 and 31 are looked up by the extended opcode, any other primary by itself.
-use borrow.Author.Rules.{rules}
 use mathlib.Core.Path.{◌≡◌, refl, sym, ap, ◌∙◌}
 use Prim.Native.Nat.{ℕ, ◌<◌}
 use native.Mathlib.Omega.{arith}
 use Rattle.words.specs.Word.{field}
 use Rattle.words.proofs.Tabulate.{tabulate}
-use Rattle.decoder.specs.Table.{Row, rows, first, coded}
+use Rattle.decoder.specs.Table.{rows, first, coded}
 use Rattle.decoder.proofs.Columns.{listed, row_extended, row_primary}
 use Rattle.decoder.proofs.table.entry_of.Goals as goal
 

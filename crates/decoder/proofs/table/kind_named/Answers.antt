@@ -1,5 +1,4 @@
 -- `decoder::table::kind_named` meets its contract. The constant is the list of names.
-use borrow.Author.Rules.{rules}
 use mathlib.Core.Path.{refl, sym}
 use Prim.Native.Nat.{◌≤◌}
 use native.Mathlib.Omega.{arith}

@@ -3,7 +3,6 @@ use mathlib.Core.List.{[], ◌∷◌}
 use Rattle.words.proofs.Tabulate.{tabulate}
 use Rattle.decoder.specs.Table.{rows, first}
 use Rattle.decoder.proofs.Columns.{in_column, no_column}
-use borrow.Author.Rules.{rules}
 use Rattle.decoder.proofs.table.under_19.Goals as goal
 
 pub returns-in-0 : goal.returns-in-0

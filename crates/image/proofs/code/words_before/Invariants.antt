@@ -1,10 +1,7 @@
 -- `image::code::words_before` meets its contract: the sum is that of the sections passed, each below 2^30.
 use Prim.Native.Nat.{◌-◌, ◌*◌, ◌^◌, ◌≤◌}
-use mathlib.Core.Path.{◌≡◌, sym, ap, ◌∙◌}
-use native.Mathlib.Omega.{arith}
-use borrow.Author.Rules.{rules}
+use mathlib.Core.Path.{◌≡◌}
 use Rattle.image.specs.Rules.{words_before}
-use Rattle.image.proofs.CodeWords.{words_none, words_more}
 use Rattle.image.proofs.code.words_before.Given as goal
 
 abbrev pub invariant-loop-j : goal.invariant-loop-j

@@ -2,14 +2,9 @@
 use Prim.Native.Nat.{ℕ, ◌-◌, ◌≤◌}
 use mathlib.Core.List.{List}
 use mathlib.Core.Bool.{Bool, true, not}
-use mathlib.Core.Path.{◌≡◌, sym}
-use native.Mathlib.Omega.{arith}
+use mathlib.Core.Path.{◌≡◌}
 use lib.Dec.{eqb}
-use borrow.Author.Rules.{rules}
-use Rattle.search.proofs.Answers.{passed, failed}
-use Rattle.search.proofs.EveryLaws.{every_none, every_more, every_fails, every_done}
 use Rattle.search.specs.Every.{every}
-use Rattle.image.specs.Rules.{elf_distinct}
 use Rattle.image.specs.Layout.{sections, section_at}
 use Rattle.image.proofs.elf.elf_distinct.Given as goal
 

@@ -1,10 +1,6 @@
 -- `image::elf::elf_index` meets its contract: the search from the loop's index on is the whole search.
 use Prim.Native.Nat.{◌-◌, ◌≤◌}
-use mathlib.Core.Path.{◌≡◌, sym, ◌∙◌}
-use native.Mathlib.Omega.{arith}
-use borrow.Author.Tests.{eq-eqb, ne_eqb}
-use borrow.Author.Rules.{rules}
-use Rattle.search.proofs.FirstLaws.{first_start, first_end, first_hit, first_miss}
+use mathlib.Core.Path.{◌≡◌}
 use Rattle.search.specs.First.{first_from}
 use Rattle.image.specs.Rules.{has_elf, elf_index}
 use Rattle.image.specs.Layout.{sections}

@@ -1,15 +1,9 @@
 -- `image::elf::elf_is_new` meets its contract: the elf numbers passed all differ.
-use Prim.Native.Nat.{ℕ, ◌-◌, ◌≤◌}
-use mathlib.Core.List.{List}
-use mathlib.Core.Bool.{Bool, true, not}
-use mathlib.Core.Path.{◌≡◌, sym, ap}
+use mathlib.Core.Bool.{not}
+use mathlib.Core.Path.{sym, ap}
 use native.Mathlib.Omega.{arith}
-use lib.Dec.{eqb}
 use borrow.Author.Tests.{eq-eqb, ne_eqb}
-use borrow.Author.Rules.{rules}
-use Rattle.search.proofs.EveryLaws.{every_none, every_more, every_fails, every_done}
-use Rattle.search.specs.Every.{every}
-use Rattle.image.specs.Layout.{section_at}
+use Rattle.search.proofs.EveryLaws.{every_none, every_more, every_fails}
 use Rattle.image.proofs.elf.elf_is_new.Invariants.{differs_at}
 use Rattle.image.proofs.elf.elf_is_new.Goals as goal
 

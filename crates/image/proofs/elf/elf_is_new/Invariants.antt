@@ -2,12 +2,8 @@
 use Prim.Native.Nat.{ℕ, ◌-◌, ◌≤◌}
 use mathlib.Core.List.{List}
 use mathlib.Core.Bool.{Bool, true, not}
-use mathlib.Core.Path.{◌≡◌, sym, ap}
-use native.Mathlib.Omega.{arith}
+use mathlib.Core.Path.{◌≡◌}
 use lib.Dec.{eqb}
-use borrow.Author.Tests.{eq-eqb, ne_eqb}
-use borrow.Author.Rules.{rules}
-use Rattle.search.proofs.EveryLaws.{every_none, every_more, every_fails, every_done}
 use Rattle.search.specs.Every.{every}
 use Rattle.image.specs.Layout.{section_at}
 use Rattle.image.proofs.elf.elf_is_new.Given as goal

@@ -1,16 +1,9 @@
 -- `image::entries::bounds_ascend` meets its contract: each place passed stands before the next.
-use Prim.Native.Nat.{ℕ, ◌+◌, ◌-◌, ◌≤◌}
-use mathlib.Core.List.{List}
-use mathlib.Core.Bool.{Bool, true}
-use mathlib.Core.Path.{◌≡◌, sym, ◌∙◌}
+use mathlib.Core.Path.{sym, ◌∙◌}
 use native.Mathlib.Omega.{arith}
-use borrow.Author.Rules.{rules}
-use Rattle.places.specs.Places.{before}
 use Rattle.search.proofs.Answers.{passed, failed}
 use Rattle.search.proofs.EveryLaws.{every_none, every_more, every_fails, every_done}
-use Rattle.search.specs.Every.{every}
-use Rattle.image.specs.Rules.{bound_place, ascending}
-use Rattle.image.specs.Layout.{bounds}
+use Rattle.image.specs.Rules.{ascending}
 use Rattle.image.proofs.entries.bounds_ascend.Invariants.{next_after}
 use Rattle.image.proofs.entries.bounds_ascend.Goals as goal
 

@@ -2,14 +2,10 @@
 use Prim.Native.Nat.{ℕ, ◌+◌, ◌-◌, ◌≤◌}
 use mathlib.Core.List.{List}
 use mathlib.Core.Bool.{Bool, true}
-use mathlib.Core.Path.{◌≡◌, sym, ◌∙◌}
-use native.Mathlib.Omega.{arith}
-use borrow.Author.Rules.{rules}
+use mathlib.Core.Path.{◌≡◌}
 use Rattle.places.specs.Places.{before}
-use Rattle.search.proofs.Answers.{passed, failed}
-use Rattle.search.proofs.EveryLaws.{every_none, every_more, every_fails, every_done}
 use Rattle.search.specs.Every.{every}
-use Rattle.image.specs.Rules.{bound_place, ascending}
+use Rattle.image.specs.Rules.{bound_place}
 use Rattle.image.specs.Layout.{bounds}
 use Rattle.image.proofs.entries.bounds_ascend.Given as goal
 

@@ -1,15 +1,9 @@
 -- `image::entries::bounds_sound` meets its contract: the relocations passed are all sound.
-use Prim.Native.Nat.{ℕ, ◌-◌, ◌≤◌}
-use mathlib.Core.List.{List}
-use mathlib.Core.Bool.{Bool, true}
-use mathlib.Core.Path.{◌≡◌, sym, ap, ◌∙◌}
+use mathlib.Core.Path.{sym, ap, ◌∙◌}
 use native.Mathlib.Omega.{arith}
-use borrow.Author.Rules.{rules}
 use Rattle.search.proofs.Answers.{passed, failed}
 use Rattle.search.proofs.EveryLaws.{every_none, every_more, every_fails, every_done}
-use Rattle.search.specs.Every.{every}
 use Rattle.image.specs.Rules.{bound_sound, bounds_sound}
-use Rattle.image.specs.Layout.{bounds, bound_at}
 use Rattle.image.proofs.entries.bounds_sound.Invariants.{sound_at}
 use Rattle.image.proofs.entries.bounds_sound.Goals as goal
 

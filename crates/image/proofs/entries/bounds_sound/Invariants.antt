@@ -2,13 +2,9 @@
 use Prim.Native.Nat.{ℕ, ◌-◌, ◌≤◌}
 use mathlib.Core.List.{List}
 use mathlib.Core.Bool.{Bool, true}
-use mathlib.Core.Path.{◌≡◌, sym, ap, ◌∙◌}
-use native.Mathlib.Omega.{arith}
-use borrow.Author.Rules.{rules}
-use Rattle.search.proofs.Answers.{passed, failed}
-use Rattle.search.proofs.EveryLaws.{every_none, every_more, every_fails, every_done}
+use mathlib.Core.Path.{◌≡◌}
 use Rattle.search.specs.Every.{every}
-use Rattle.image.specs.Rules.{bound_sound, bounds_sound}
+use Rattle.image.specs.Rules.{bound_sound}
 use Rattle.image.specs.Layout.{bounds, bound_at}
 use Rattle.image.proofs.entries.bounds_sound.Given as goal
 

@@ -1,10 +1,6 @@
 -- `image::entries::unbound_sound` meets its contract: the section that was found exists.
-use mathlib.Core.Bool.{false}
-use mathlib.Core.Path.{refl, sym, ◌∙◌}
+use mathlib.Core.Path.{sym, ◌∙◌}
 use native.Mathlib.Omega.{arith}
-use lib.Dec.{ltb}
-use borrow.Author.Rules.{rules}
-use Rattle.search.proofs.EveryLaws.{and_false_right}
 use Rattle.search.proofs.FirstMatch.{first_below}
 use Rattle.image.specs.Rules.{has_elf}
 use Rattle.image.proofs.entries.unbound_sound.Goals as goal

@@ -1,15 +1,9 @@
 -- `image::entries::unbounds_sound` meets its contract: the relocations passed are all sound.
-use Prim.Native.Nat.{ℕ, ◌-◌, ◌≤◌}
-use mathlib.Core.List.{List}
-use mathlib.Core.Bool.{Bool, true}
-use mathlib.Core.Path.{◌≡◌, sym, ap, ◌∙◌}
+use mathlib.Core.Path.{sym, ap, ◌∙◌}
 use native.Mathlib.Omega.{arith}
-use borrow.Author.Rules.{rules}
 use Rattle.search.proofs.Answers.{passed, failed}
 use Rattle.search.proofs.EveryLaws.{every_none, every_more, every_fails, every_done}
-use Rattle.search.specs.Every.{every}
 use Rattle.image.specs.Rules.{unbound_sound, unbounds_sound}
-use Rattle.image.specs.Layout.{unbounds, unbound_at}
 use Rattle.image.proofs.entries.unbounds_sound.Invariants.{sound_at}
 use Rattle.image.proofs.entries.unbounds_sound.Goals as goal
 

@@ -2,13 +2,9 @@
 use Prim.Native.Nat.{ℕ, ◌-◌, ◌≤◌}
 use mathlib.Core.List.{List}
 use mathlib.Core.Bool.{Bool, true}
-use mathlib.Core.Path.{◌≡◌, sym, ap, ◌∙◌}
-use native.Mathlib.Omega.{arith}
-use borrow.Author.Rules.{rules}
-use Rattle.search.proofs.Answers.{passed, failed}
-use Rattle.search.proofs.EveryLaws.{every_none, every_more, every_fails, every_done}
+use mathlib.Core.Path.{◌≡◌}
 use Rattle.search.specs.Every.{every}
-use Rattle.image.specs.Rules.{unbound_sound, unbounds_sound}
+use Rattle.image.specs.Rules.{unbound_sound}
 use Rattle.image.specs.Layout.{unbounds, unbound_at}
 use Rattle.image.proofs.entries.unbounds_sound.Given as goal
 

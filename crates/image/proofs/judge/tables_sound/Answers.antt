@@ -1,8 +1,6 @@
 -- `image::judge::tables_sound` meets its contract: the three parts are one chain of rules, and the head gives what the others require.
-use borrow.Author.Rules.{rules}
 use Rattle.search.proofs.Answers.{passed, failed}
 use Rattle.image.specs.Rules.{tables_sound}
-use Rattle.image.proofs.SoundTables.{laid_head}
 use Rattle.image.proofs.judge.tables_sound.Goals as goal
 
 pub returns-then-not-head_sound : goal.returns-then-not-head_sound

@@ -1,15 +1,8 @@
 -- `image::sections::apart_before` meets its contract: the sections passed are all apart from this one.
-use Prim.Native.Nat.{ℕ, ◌-◌, ◌≤◌}
-use mathlib.Core.List.{List}
-use mathlib.Core.Bool.{Bool, true}
-use mathlib.Core.Path.{◌≡◌, sym, ◌∙◌}
+use mathlib.Core.Path.{sym, ◌∙◌}
 use native.Mathlib.Omega.{arith}
-use borrow.Author.Rules.{rules}
 use Rattle.search.proofs.Answers.{passed, failed}
-use Rattle.search.proofs.EveryLaws.{every_none, every_more, every_fails, every_done}
-use Rattle.search.specs.Every.{every}
-use Rattle.image.specs.Rules.{apart}
-use Rattle.image.specs.Layout.{section_at}
+use Rattle.search.proofs.EveryLaws.{every_none, every_more, every_fails}
 use Rattle.image.proofs.sections.apart_before.Invariants.{apart_at}
 use Rattle.image.proofs.sections.apart_before.Goals as goal
 

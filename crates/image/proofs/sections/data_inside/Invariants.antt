@@ -1,16 +1,10 @@
 -- `image::sections::data_inside` meets its contract: the sections passed all have their data in the buffer.
 use Prim.Native.Nat.{ℕ, ◌+◌, ◌-◌, ◌≤◌}
-use mathlib.Core.Path.{◌≡◌, sym, subst}
+use mathlib.Core.Path.{◌≡◌}
 use mathlib.Core.List.{List}
-use mathlib.Core.Bool.{Bool, true, false}
-use native.Mathlib.Omega.{arith}
+use mathlib.Core.Bool.{Bool, true}
 use lib.Dec.{leb}
-use borrow.Author.Tests.{lt-leb, le-leb}
-use borrow.Author.Rules.{rules}
-use Rattle.search.proofs.EveryLaws.{every_none, every_more, every_fails, every_done}
 use Rattle.search.specs.Every.{every}
-use Rattle.image.specs.declared.Section.{Section}
-use Rattle.image.specs.Rules.{data_inside}
 use Rattle.image.specs.Layout.{sections, section_at}
 use Rattle.image.proofs.sections.data_inside.Given as goal
 

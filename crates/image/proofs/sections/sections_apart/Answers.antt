@@ -1,16 +1,10 @@
 -- `image::sections::sections_apart` meets its contract: another kind has nothing to show; in an Executable the sections passed are all apart from those before them.
-use Prim.Native.Nat.{ℕ, ◌-◌, ◌≤◌}
-use mathlib.Core.List.{List}
-use mathlib.Core.Bool.{Bool, true}
-use mathlib.Core.Path.{◌≡◌, sym}
+use mathlib.Core.Path.{sym}
 use native.Mathlib.Omega.{arith}
 use borrow.Author.Tests.{eq-eqb, ne_eqb}
-use borrow.Author.Rules.{rules}
 use Rattle.search.proofs.Answers.{passed, failed}
 use Rattle.search.proofs.EveryLaws.{every_none, every_more, every_fails, every_done}
-use Rattle.search.specs.Every.{every}
-use Rattle.image.specs.Rules.{apart, sections_apart}
-use Rattle.image.specs.Layout.{sections, section_at}
+use Rattle.image.specs.Rules.{sections_apart}
 use Rattle.image.proofs.sections.sections_apart.Invariants.{apart_from}
 use Rattle.image.proofs.sections.sections_apart.Goals as goal
 

@@ -2,14 +2,9 @@
 use Prim.Native.Nat.{ℕ, ◌-◌, ◌≤◌}
 use mathlib.Core.List.{List}
 use mathlib.Core.Bool.{Bool, true}
-use mathlib.Core.Path.{◌≡◌, sym}
-use native.Mathlib.Omega.{arith}
-use borrow.Author.Tests.{eq-eqb, ne_eqb}
-use borrow.Author.Rules.{rules}
-use Rattle.search.proofs.Answers.{passed, failed}
-use Rattle.search.proofs.EveryLaws.{every_none, every_more, every_fails, every_done}
+use mathlib.Core.Path.{◌≡◌}
 use Rattle.search.specs.Every.{every}
-use Rattle.image.specs.Rules.{apart, sections_apart}
+use Rattle.image.specs.Rules.{apart}
 use Rattle.image.specs.Layout.{sections, section_at}
 use Rattle.image.proofs.sections.sections_apart.Given as goal
 

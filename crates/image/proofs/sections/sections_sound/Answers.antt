@@ -1,15 +1,9 @@
 -- `image::sections::sections_sound` meets its contract: the sections passed are all sound.
-use Prim.Native.Nat.{ℕ, ◌-◌, ◌≤◌}
-use mathlib.Core.List.{List}
-use mathlib.Core.Bool.{Bool, true}
-use mathlib.Core.Path.{◌≡◌, sym, ap, ◌∙◌}
+use mathlib.Core.Path.{sym, ap, ◌∙◌}
 use native.Mathlib.Omega.{arith}
-use borrow.Author.Rules.{rules}
 use Rattle.search.proofs.Answers.{passed, failed}
 use Rattle.search.proofs.EveryLaws.{every_none, every_more, every_fails, every_done}
-use Rattle.search.specs.Every.{every}
 use Rattle.image.specs.Rules.{section_sound, sections_sound}
-use Rattle.image.specs.Layout.{sections, section_at}
 use Rattle.image.proofs.sections.sections_sound.Invariants.{sound_at}
 use Rattle.image.proofs.sections.sections_sound.Goals as goal
 

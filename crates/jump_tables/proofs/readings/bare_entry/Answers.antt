@@ -1,12 +1,10 @@
 -- A bare word names a place in an Executable alone. A section found is one of 64, so its index fits.
-use borrow.Author.Tests.{eq-eqb, ne_eqb}
 use mathlib.Core.Path.{sym, ◌∙◌}
 use Rattle.search.proofs.FirstMatch.{first_below}
 use Rattle.image.specs.Layout.{sections}
 use Rattle.lookups.specs.Sections.{held}
 use Rattle.image.proofs.SoundTables.{sound_tables}
 use native.Mathlib.Omega.{arith}
-use borrow.Author.Rules.{rules}
 use Rattle.jump_tables.proofs.readings.bare_entry.Goals as goal
 
 pub bounds-im-0 : goal.bounds-im-0

@@ -1,7 +1,6 @@
 -- The relocation is looked up first, then the word.
 use mathlib.Core.Path.{sym, ◌∙◌}
 use Rattle.jump_tables.specs.Readings.{sized_reading}
-use borrow.Author.Rules.{rules}
 use Rattle.jump_tables.proofs.readings.sized_reading.Goals as goal
 
 pub returns-in-Error : goal.returns-in-Error

@@ -2,9 +2,8 @@
 use Rattle.image.proofs.SoundTables.{sound_tables}
 use Rattle.lookups.proofs.SoundSections.{has_data_lem}
 use lib.ListN.{length}
-use mathlib.Core.Path.{refl, sym, ◌∙◌}
+use mathlib.Core.Path.{sym, ◌∙◌}
 use native.Mathlib.Omega.{arith}
-use borrow.Author.Rules.{rules}
 use Rattle.lookups.proofs.bytes.data_from.Goals as goal
 
 pub section-s-requires : goal.section-s-requires

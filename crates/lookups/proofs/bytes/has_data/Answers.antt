@@ -1,11 +1,6 @@
 -- Each test in turn decides one part of the conjunction.
-use Rattle.image.specs.declared.Section.{Section}
-use Rattle.image.specs.Layout.{sections}
-use borrow.Author.Tests.{lt-ltb, le-ltb, eq-eqb, ne_eqb}
-use mathlib.Core.Path.{sym, ap, ◌∙◌}
 use Rattle.image.proofs.SoundTables.{sound_tables}
 use native.Mathlib.Omega.{arith}
-use borrow.Author.Rules.{rules}
 use Rattle.lookups.proofs.bytes.has_data.Goals as goal
 
 pub section_count-requires : goal.section_count-requires

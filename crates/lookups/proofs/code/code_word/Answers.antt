@@ -2,10 +2,8 @@
 use Rattle.lookups.proofs.CodeBytes.{code_bytes, code_word_at}
 use Rattle.image.proofs.SoundTables.{sound_tables}
 use lib.ListN.{length}
-use Prim.Native.Nat.{◌+◌, ◌*◌}
 use mathlib.Core.Path.{sym}
 use native.Mathlib.Omega.{arith}
-use borrow.Author.Rules.{rules}
 use Rattle.lookups.proofs.code.code_word.Goals as goal
 
 pub bounds-im-i-2 : goal.bounds-im-i-2

@@ -3,7 +3,6 @@ use Rattle.lookups.proofs.WordNumbers.{word_number_below}
 use Rattle.lookups.proofs.SoundSections.{in_code_lem}
 use Rattle.image.proofs.SoundTables.{sound_tables}
 use native.Mathlib.Omega.{arith}
-use borrow.Author.Rules.{rules}
 use Rattle.lookups.proofs.code.word_number.Goals as goal
 
 pub words_before-before-requires : goal.words_before-before-requires

@@ -1,14 +1,10 @@
 -- Executable: the first section that holds the value. Else the section that was handed in, if it holds it.
 use Rattle.lookups.specs.Sections.{held}
-use Rattle.image.specs.declared.Section.{Section}
-use Rattle.image.specs.Rules.{holds}
 use Rattle.image.specs.Layout.{sections}
 use Rattle.search.proofs.FirstMatch.{first_below}
-use borrow.Author.Tests.{lt-ltb, le-ltb, eq-eqb, ne_eqb}
-use mathlib.Core.Path.{sym, ap, ◌∙◌}
+use mathlib.Core.Path.{sym, ◌∙◌}
 use Rattle.image.proofs.SoundTables.{sound_tables}
 use native.Mathlib.Omega.{arith}
-use borrow.Author.Rules.{rules}
 use Rattle.lookups.proofs.relocations.bare_address.Goals as goal
 
 pub bounds-im-0 : goal.bounds-im-0

@@ -1,11 +1,8 @@
 -- The invariant: the search from j on finds what the whole search finds.
 use Rattle.lookups.specs.Relocations.{unbound_here}
-use Rattle.search.proofs.FirstLaws.{first_start, first_end, first_hit, first_miss}
-use Rattle.search.specs.First.{first, first_from}
-use Prim.Native.Nat.{◌-◌, ◌≤◌}
-use mathlib.Core.Path.{◌≡◌, sym, ◌∙◌}
+use Rattle.search.proofs.FirstLaws.{first_end, first_hit, first_miss}
+use mathlib.Core.Path.{sym, ◌∙◌}
 use native.Mathlib.Omega.{arith}
-use borrow.Author.Rules.{rules}
 use Rattle.lookups.proofs.relocations.first_unbound.Goals as goal
 
 pub returns-then-is_entry : goal.returns-then-is_entry

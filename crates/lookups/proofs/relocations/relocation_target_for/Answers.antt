@@ -6,7 +6,6 @@ use borrow.Author.Tests.{lt-ltb, le-ltb}
 use mathlib.Core.Path.{sym, ◌∙◌}
 use Rattle.image.proofs.SoundTables.{sound_tables}
 use native.Mathlib.Omega.{arith}
-use borrow.Author.Rules.{rules}
 use Rattle.lookups.proofs.relocations.relocation_target_for.Goals as goal
 
 pub section_count-requires : goal.section_count-requires

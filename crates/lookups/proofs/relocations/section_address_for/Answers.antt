@@ -1,7 +1,6 @@
 -- The relocation if there is one, else the bare value.
 use Rattle.lookups.specs.Relocations.{section_address_for}
 use mathlib.Core.Path.{sym, ◌∙◌}
-use borrow.Author.Rules.{rules}
 use Rattle.lookups.proofs.relocations.section_address_for.Goals as goal
 
 pub returns-in-Known : goal.returns-in-Known

@@ -1,7 +1,4 @@
 -- Sound tables are laid out, so the whole table is there to be searched.
-use Rattle.lookups.specs.Relocations.{unbound_here}
-use Rattle.search.specs.First.{first}
-use mathlib.Core.Path.{ap, ◌∙◌}
 use Rattle.image.proofs.SoundTables.{sound_tables}
 use native.Mathlib.Omega.{arith}
 use Rattle.lookups.proofs.relocations.unbound_index.Goals as goal

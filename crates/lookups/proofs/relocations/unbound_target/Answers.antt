@@ -2,11 +2,9 @@
 use Rattle.image.specs.Rules.{has_elf}
 use Rattle.image.specs.Layout.{sections}
 use Rattle.search.proofs.FirstMatch.{first_below}
-use borrow.Author.Tests.{eq-eqb, ne_eqb}
 use mathlib.Core.Path.{sym, ◌∙◌}
 use Rattle.image.proofs.SoundTables.{sound_tables}
 use native.Mathlib.Omega.{arith}
-use borrow.Author.Rules.{rules}
 use Rattle.lookups.proofs.relocations.unbound_target.Goals as goal
 
 pub bounds-im-1 : goal.bounds-im-1

@@ -5,7 +5,6 @@ use Rattle.search.proofs.FirstMatch.{first_below}
 use mathlib.Core.Path.{sym, ◌∙◌}
 use Rattle.image.proofs.SoundTables.{sound_tables}
 use native.Mathlib.Omega.{arith}
-use borrow.Author.Rules.{rules}
 use Rattle.lookups.proofs.relocations.unbound_target_for.Goals as goal
 
 pub unbound-requires : goal.unbound-requires

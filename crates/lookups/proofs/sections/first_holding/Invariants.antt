@@ -1,11 +1,8 @@
 -- The invariant: the search from i on finds what the whole search finds.
 use Rattle.lookups.specs.Sections.{held}
-use Rattle.search.proofs.FirstLaws.{first_start, first_end, first_hit, first_miss}
 use Rattle.search.specs.First.{first, first_from}
 use Prim.Native.Nat.{◌-◌, ◌≤◌}
-use mathlib.Core.Path.{◌≡◌, sym, ◌∙◌}
-use native.Mathlib.Omega.{arith}
-use borrow.Author.Rules.{rules}
+use mathlib.Core.Path.{◌≡◌}
 use Rattle.lookups.proofs.sections.first_holding.Given as goal
 
 abbrev pub invariant-loop-i : goal.invariant-loop-i

@@ -2,8 +2,7 @@
 use Prim.Native.Nat.{◌+◌, ◌-◌, ◌/◌}
 use mathlib.Core.Path.{sym}
 use native.Mathlib.Omega.{arith}
-use borrow.Author.Rules.{rules}
-use Rattle.lookups.proofs.Halves.{Halves, keys_at, inside, halves_begin, table_up, table_down, table_hit, table_miss, table_end}
+use Rattle.lookups.proofs.Halves.{table_up, table_down, table_hit, table_miss, table_end}
 use Rattle.lookups.proofs.sorted.index_by_halves.Goals as goal
 
 pub loop-lo-preserved-then-key_at-wanted : goal.loop-lo-preserved-then-key_at-wanted

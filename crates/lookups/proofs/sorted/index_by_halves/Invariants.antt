@@ -1,9 +1,6 @@
 -- The invariant: keys below lo are smaller than the wanted one, those from hi on are not. The measure is what is between.
-use Prim.Native.Nat.{◌+◌, ◌-◌, ◌/◌}
-use mathlib.Core.Path.{sym}
-use native.Mathlib.Omega.{arith}
-use borrow.Author.Rules.{rules}
-use Rattle.lookups.proofs.Halves.{Halves, keys_at, inside, halves_begin, table_up, table_down, table_hit, table_miss, table_end}
+use Prim.Native.Nat.{◌-◌}
+use Rattle.lookups.proofs.Halves.{Halves, keys_at}
 use Rattle.lookups.proofs.sorted.index_by_halves.Given as goal
 
 abbrev pub invariant-loop-lo : goal.invariant-loop-lo

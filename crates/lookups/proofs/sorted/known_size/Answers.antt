@@ -1,13 +1,10 @@
 -- A symbol that was found lies in the table.
 use Rattle.lookups.specs.Sections.{symbol_here}
-use Rattle.image.specs.declared.Symbol.{Symbol}
 use Rattle.image.specs.Layout.{symbols}
 use Rattle.search.proofs.FirstMatch.{first_below}
-use borrow.Author.Tests.{eq-eqb, ne_eqb}
-use mathlib.Core.Path.{sym, ap, ◌∙◌}
+use mathlib.Core.Path.{sym, ◌∙◌}
 use Rattle.image.proofs.SoundTables.{sound_tables}
 use native.Mathlib.Omega.{arith}
-use borrow.Author.Rules.{rules}
 use Rattle.lookups.proofs.sorted.known_size.Goals as goal
 
 pub symbol-s-requires : goal.symbol-s-requires

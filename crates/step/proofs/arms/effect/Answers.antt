@@ -1,6 +1,5 @@
 -- `step::arms::effect` meets its contract. Each arm is the clause of `effectBy` for its operation; the last is every load and store.
 use mathlib.Core.Path.{sym, ◌∙◌}
-use borrow.Author.Rules.{rules}
 use Rattle.step.specs.Arms.{effect_by}
 use Rattle.step.proofs.Masks.{masked}
 use Rattle.step.proofs.Accesses.{access_arm}

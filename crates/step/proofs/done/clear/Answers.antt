@@ -1,5 +1,4 @@
 -- `step::done::clear` meets its contract.
-use borrow.Author.Rules.{rules}
 use Rattle.vm.specs.Registers.{blank}
 use Rattle.step.specs.Arms.{rd_of, ra_of}
 use Rattle.step.specs.Step.{cleared_of}

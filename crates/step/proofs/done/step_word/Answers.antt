@@ -1,5 +1,4 @@
 -- `step::done::step_word` meets its contract. Each arm does what `done_of` says of its effect.
-use borrow.Author.Rules.{rules}
 use Rattle.step.specs.Step.{done_of}
 use Rattle.step.proofs.Effects.{step_by}
 use Rattle.step.proofs.done.step_word.Goals as goal

@@ -1,5 +1,4 @@
 -- `step::records::access` meets its contract.
-use borrow.Author.Rules.{rules}
 use Rattle.step.specs.Arms.{access_of}
 use Rattle.step.proofs.records.access.Goals as goal
 

@@ -1,5 +1,4 @@
 -- `step::records::addi` meets its contract.
-use borrow.Author.Rules.{rules}
 use Rattle.step.specs.Arms.{addi_gpr}
 use Rattle.step.proofs.records.addi.Goals as goal
 

@@ -1,6 +1,5 @@
 -- `step::records::addis` meets its contract.
 use borrow.Author.Tests.{eq-eqb, ne_eqb}
-use borrow.Author.Rules.{rules}
 use Rattle.step.specs.Arms.{addis_gpr}
 use Rattle.step.proofs.records.addis.Goals as goal
 

@@ -1,5 +1,4 @@
 -- `step::records::compare` meets its contract.
-use borrow.Author.Rules.{rules}
 use Rattle.step.specs.Arms.{compare_of}
 use Rattle.step.proofs.records.compare.Goals as goal
 

@@ -1,6 +1,5 @@
 -- `step::records::mfspr` meets its contract.
 use borrow.Author.Tests.{ne_eqb}
-use borrow.Author.Rules.{rules}
 use Rattle.step.specs.Arms.{from_spr}
 use Rattle.step.proofs.records.mfspr.Goals as goal
 

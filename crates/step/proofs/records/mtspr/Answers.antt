@@ -1,6 +1,5 @@
 -- `step::records::mtspr` meets its contract.
 use borrow.Author.Tests.{ne_eqb}
-use borrow.Author.Rules.{rules}
 use Rattle.step.specs.Arms.{to_spr}
 use Rattle.step.proofs.records.mtspr.Goals as goal
 

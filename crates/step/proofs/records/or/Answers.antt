@@ -1,6 +1,5 @@
 -- `step::records::or` meets its contract.
 use borrow.Author.Tests.{eq-eqb, ne_eqb}
-use borrow.Author.Rules.{rules}
 use Rattle.step.specs.Arms.{or_gpr}
 use Rattle.step.proofs.records.or.Goals as goal
 

@@ -1,5 +1,4 @@
 -- `step::records::ori` meets its contract.
-use borrow.Author.Rules.{rules}
 use Rattle.step.specs.Arms.{ori_gpr}
 use Rattle.step.proofs.records.ori.Goals as goal
 

@@ -1,6 +1,5 @@
 -- `step::ways::conditional` meets its contract.
 use borrow.Author.Tests.{ne_eqb}
-use borrow.Author.Rules.{rules}
 use Rattle.step.specs.Ways.{conditional_of}
 use Rattle.step.proofs.ways.conditional.Goals as goal
 

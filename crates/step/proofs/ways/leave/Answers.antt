@@ -1,5 +1,4 @@
 -- `step::ways::leave` meets its contract.
-use borrow.Author.Rules.{rules}
 use Rattle.step.specs.Ways.{leave_of}
 use Rattle.step.proofs.ways.leave.Goals as goal
 

@@ -1,5 +1,4 @@
 -- `step::ways::left` meets its contract.
-use borrow.Author.Rules.{rules}
 use Rattle.step.specs.Ways.{left_of}
 use Rattle.step.proofs.ways.left.Goals as goal
 

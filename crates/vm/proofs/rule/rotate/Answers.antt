@@ -1,5 +1,4 @@
 -- `vm::rule::rotate` meets its contract.
-use borrow.Author.Rules.{rules}
 use Rattle.vm.specs.Rules.{rotate_of}
 use Rattle.vm.proofs.Values.{neither}
 use Rattle.vm.proofs.rule.rotate.Goals as goal

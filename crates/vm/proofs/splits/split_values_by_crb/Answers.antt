@@ -1,6 +1,5 @@
 -- `vm::splits::split_values_by_crb` meets its contract.
 use borrow.Author.Tests.{eq-eqb, ne_eqb}
-use borrow.Author.Rules.{rules}
 use Rattle.vm.specs.Splits.{split_of}
 use Rattle.vm.proofs.splits.split_values_by_crb.Goals as goal
 

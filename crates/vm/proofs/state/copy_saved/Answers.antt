@@ -1,7 +1,7 @@
 -- The registers from 14 up to the place of the loop are copied.
-use Rattle.std.proofs.Common.{◌≡◌, ◌≤◌, ◌<◌, length, refl, ap, sym, ◌∙◌, arith, add-one, rules}
+use Rattle.std.proofs.Common.{◌≡◌, ◌≤◌, ◌<◌, length, ap, sym, ◌∙◌, arith, add-one, rules}
 use Rattle.vm.specs.Registers.{with_gprs, blank}
-use Rattle.vm.proofs.Lists.{copied, copied_none, copied_suc, copied_all}
+use Rattle.vm.proofs.Lists.{copied_none, copied_suc, copied_all}
 use Rattle.vm.proofs.state.copy_saved.Goals as goal
 
 pub loop-i-init : goal.loop-i-init

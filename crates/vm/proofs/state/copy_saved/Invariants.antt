@@ -1,12 +1,9 @@
 -- `vm::state::copy_saved` meets its contract. The registers from 14 up to the place of the loop are copied.
-use mathlib.Core.Path.{◌≡◌, refl, ap, sym, ◌∙◌}
-use Prim.Native.Nat.{◌<◌, ◌≤◌, ◌-◌}
-use native.Mathlib.Numerals.{add-one}
-use native.Mathlib.Omega.{arith}
-use borrow.Author.Rules.{rules}
+use mathlib.Core.Path.{◌≡◌}
+use Prim.Native.Nat.{◌≤◌, ◌-◌}
 use lib.ListN.{length}
-use Rattle.vm.specs.Registers.{with_gprs, blank}
-use Rattle.vm.proofs.Lists.{copied, copied_none, copied_suc, copied_all}
+use Rattle.vm.specs.Registers.{with_gprs}
+use Rattle.vm.proofs.Lists.{copied}
 use Rattle.vm.proofs.state.copy_saved.Given as goal
 
 abbrev pub invariant-loop-i : goal.invariant-loop-i

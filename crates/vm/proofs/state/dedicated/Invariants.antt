@@ -1,14 +1,10 @@
 -- `vm::state::dedicated` meets its contract. The registers below the place of the loop are done.
-use mathlib.Core.Path.{◌≡◌, refl, sym, ◌∙◌}
-use Prim.Native.Nat.{◌<◌, ◌≤◌, ◌-◌}
-use native.Mathlib.Numerals.{add-one}
-use native.Mathlib.Omega.{arith}
-use borrow.Author.Rules.{rules}
+use mathlib.Core.Path.{◌≡◌}
+use Prim.Native.Nat.{◌≤◌, ◌-◌}
 use lib.ListN.{length}
-use mathlib.Core.Bool.{true, false}
 use Rattle.vm.specs.Registers.{with_gprs}
 use Rattle.vm.specs.States.{fresh}
-use Rattle.vm.proofs.Dedicated.{asked, kept_to, kept_all}
+use Rattle.vm.proofs.Dedicated.{kept_to}
 use Rattle.vm.proofs.state.dedicated.Given as goal
 
 abbrev pub invariant-loop-i : goal.invariant-loop-i

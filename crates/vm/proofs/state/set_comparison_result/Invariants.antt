@@ -1,16 +1,10 @@
 -- `vm::state::set_comparison_result` meets its contract. The registers below the place of the loop are done.
-use mathlib.Core.Path.{◌≡◌, refl, ap, sym, subst, ◌∙◌}
-use Prim.Native.Nat.{◌<◌, ◌≤◌, ◌-◌}
-use native.Mathlib.Numerals.{add-one}
-use native.Mathlib.Omega.{arith}
-use borrow.Author.Rules.{rules}
-use lib.ListN.{length, get_or, set}
-use lib.Seq.{set-get_or}
+use mathlib.Core.Path.{◌≡◌}
+use Prim.Native.Nat.{◌≤◌, ◌-◌}
+use lib.ListN.{length}
 use Rattle.vm.specs.States.{result_of}
-use Rattle.vm.specs.declared.VM.{VM}
-use Rattle.vm.specs.Registers.{with_gprs, blank, marked, reg}
-use Rattle.vm.proofs.Values.{by_mark}
-use Rattle.vm.proofs.Lists.{map_to, map_to_suc, map_to_all}
+use Rattle.vm.specs.Registers.{with_gprs}
+use Rattle.vm.proofs.Lists.{map_to}
 use Rattle.vm.proofs.state.set_comparison_result.Given as goal
 
 abbrev pub invariant-loop-i : goal.invariant-loop-i
