@@ -1,4 +1,4 @@
-use Rattle.std.proofs.Common.{length, ◌-◌, ◌≤◌, IfOk, ◌≡◌, ℕ, ◌+◌, ◌*◌, ◌<◌}
+use Rattle.std.proofs.Common.{length, ◌-◌, ◌≤◌}
 use Rattle.streams.proofs.read_full.Given as goal
 
 abbrev pub invariant-loop-done : goal.invariant-loop-done
