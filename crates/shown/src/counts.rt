@@ -7,7 +7,14 @@ use crate::say::{count, line, number};
 use std::io;
 use turns::Walked;
 
-pub fn show(rt: &impl Print, im: &[u32], starts: u64, map: &[u32], w: Walked, lines: bool) -> io::Result<()>
+pub fn show(
+    rt: &impl Print,
+    im: &[u32],
+    starts: u64,
+    map: &[u32],
+    w: Walked,
+    lines: bool,
+) -> io::Result<()>
     requires { Laid im.now }
 {
     show_kind(rt, im[0], lines)?;
@@ -15,7 +22,13 @@ pub fn show(rt: &impl Print, im: &[u32], starts: u64, map: &[u32], w: Walked, li
     count(rt, lines, b"starts           ", b"starts ", starts)?;
     let words = image::code::code_words(im);
     let seen = visited::count(map, words);
-    count(rt, lines, b"code words       ", b"code_words ", words as u64)?;
+    count(
+        rt,
+        lines,
+        b"code words       ",
+        b"code_words ",
+        words as u64,
+    )?;
     show_visited(rt, seen as u64, words as u64, lines)?;
     show_walk(rt, w, lines)
 }
@@ -31,9 +44,23 @@ fn show_kind(rt: &impl Print, kind: u32, lines: bool) -> io::Result<()> {
 }
 
 // The module number, and how many records each table of the image has.
-fn show_tables(rt: &impl Print, module: u32, sections: u32, bound: u32, unbound: u32, symbols: u32, lines: bool) -> io::Result<()> {
+fn show_tables(
+    rt: &impl Print,
+    module: u32,
+    sections: u32,
+    bound: u32,
+    unbound: u32,
+    symbols: u32,
+    lines: bool,
+) -> io::Result<()> {
     count(rt, lines, b"module           ", b"module ", module as u64)?;
-    count(rt, lines, b"sections         ", b"sections ", sections as u64)?;
+    count(
+        rt,
+        lines,
+        b"sections         ",
+        b"sections ",
+        sections as u64,
+    )?;
     count(rt, lines, b"bound            ", b"bound ", bound as u64)?;
     count(rt, lines, b"unbound          ", b"unbound ", unbound as u64)?;
     count(rt, lines, b"object symbols   ", b"symbols ", symbols as u64)
@@ -68,7 +95,13 @@ fn show_walk(rt: &impl Print, w: Walked, lines: bool) -> io::Result<()> {
     count(rt, lines, b"blocks begun     ", b"blocks ", w.begun)?;
     count(rt, lines, b"steps            ", b"steps ", w.stepped)?;
     count(rt, lines, b"tables read      ", b"tables_read ", w.read)?;
-    count(rt, lines, b"tables not read  ", b"tables_not_read ", w.not_read)?;
+    count(
+        rt,
+        lines,
+        b"tables not read  ",
+        b"tables_not_read ",
+        w.not_read,
+    )?;
     warn(
         rt,
         w.not_read,

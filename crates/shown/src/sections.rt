@@ -27,7 +27,15 @@ pub fn show(rt: &impl Print, im: &[u32], map: &[u32], lines: bool) -> io::Result
 }
 
 // A section whose Code words, so many, have the numbers from `base` on.
-fn show_section(rt: &impl Print, index: u64, s: Section, map: &[u32], base: u32, words: u32, lines: bool) -> io::Result<()>
+fn show_section(
+    rt: &impl Print,
+    index: u64,
+    s: Section,
+    map: &[u32],
+    base: u32,
+    words: u32,
+    lines: bool,
+) -> io::Result<()>
     requires { (base + words < 2 ^ 32) × (words < 2 ^ 30) }
 {
     let seen = runs::count(map, base, words);
@@ -74,7 +82,15 @@ fn tell_kind(rt: &impl Print, kind: u32) -> io::Result<()> {
 }
 
 // The maximal runs of visited words of a section.
-fn show_runs(rt: &impl Print, index: u64, address: u32, map: &[u32], base: u32, words: u32, lines: bool) -> io::Result<()>
+fn show_runs(
+    rt: &impl Print,
+    index: u64,
+    address: u32,
+    map: &[u32],
+    base: u32,
+    words: u32,
+    lines: bool,
+) -> io::Result<()>
     requires { (base + words < 2 ^ 32) × (words < 2 ^ 30) }
 {
     let mut j = 0;
@@ -92,7 +108,14 @@ fn show_runs(rt: &impl Print, index: u64, address: u32, map: &[u32], base: u32, 
     Ok(())
 }
 
-fn show_run(rt: &impl Print, index: u64, from: u32, upto: u32, n: u64, lines: bool) -> io::Result<()> {
+fn show_run(
+    rt: &impl Print,
+    index: u64,
+    from: u32,
+    upto: u32,
+    n: u64,
+    lines: bool,
+) -> io::Result<()> {
     if lines {
         number(rt, b"run ", index)?;
         word(rt, b" ", from)?;
