@@ -4,13 +4,15 @@
 
 ghost use Rattle.std.specs.Prelude.{◌≡◌, length};
 
+use std::io;
+
 fn room() -> [u8; 1048576]
     ensures { 1048576 ≡ length result }
 {
     [0; 1048576]
 }
 
-fn main() {
+fn main(rt: HostRuntime) -> io::Result<()> {
     let mut file = room();
-    auditing::run(&mut file);
+    auditing::run(&rt, &mut rt.stdin(), &mut file)
 }

@@ -7,7 +7,10 @@ ghost use Rattle.image.specs.Rules.{sound};
 
 use image::Judged;
 use image_file::{Head, Parsed};
-use libc::STDIN_FILENO;
+use std::io;
+use std::io::Read;
+use std::rt::{Env, Files};
+use streams::read_full;
 use turns::{WalkAnswer, Walked};
 
 mod options;
@@ -20,56 +23,61 @@ use options::Options;
 use shown::{counts, say, sections};
 
 // The whole audit, in a buffer that the file must fit in. The last line written says how it ended.
-pub fn run(file: &mut [u8]) {
-    let o = options::read();
+pub fn run<R: Print + Eprint + Env + Files, I: Read>(
+    rt: &R,
+    input: &mut I,
+    file: &mut [u8],
+) -> io::Result<()> {
+    let o = options::read(rt);
     if !o.known {
-        say::line(b"unknown option");
-        return;
+        return say::line(rt, b"unknown option");
     }
-    let n = io::read_full(STDIN_FILENO, file);
+    let n = read_full(input, file)?;
     if n == file.len() {
-        if has_more() {
-            refusals::too_long(n);
-            return;
+        if has_more(input)? {
+            return refusals::too_long(rt, n);
         }
     }
-    parse(&file[..n], o);
+    parse(rt, &file[..n], o)
 }
 
 // Whether the input goes on.
-fn has_more() -> bool {
+fn has_more<I: Read>(input: &mut I) -> io::Result<bool> {
     let mut one = [0u8; 1];
-    io::read_full(STDIN_FILENO, &mut one) == 1
+    let n = read_full(input, &mut one)?;
+    Ok(n == 1)
 }
 
-fn parse(file: &[u8], o: Options) {
+fn parse<R: Print + Eprint + Env + Files>(rt: &R, file: &[u8], o: Options) -> io::Result<()> {
     let mut im = rooms::image();
     let mut starts = rooms::starts();
     match image_file::read_file(file, &mut im, &mut starts) {
-        Parsed::Bad(wrong, at) => refusals::no_file(wrong, at, image_file::whole_length(file)),
-        Parsed::File(h) => judge(image_file::data_of(file), &im, &starts, h, o),
+        Parsed::Bad(wrong, at) => refusals::no_file(rt, wrong, at, image_file::whole_length(file)),
+        Parsed::File(h) => judge(rt, image_file::data_of(file), &im, &starts, h, o),
     }
 }
 
 // The image's words and the starts, in the rooms that they were read into.
-fn judge(data: &[u8], im: &[u32], starts: &[u64], h: Head, o: Options) {
+fn judge<R: Print + Eprint + Env + Files>(rt: &R, data: &[u8], im: &[u32], starts: &[u64], h: Head, o: Options) -> io::Result<()> {
     let words = h.words as usize;
     let count = h.starts as usize;
     if words <= im.len() {
         if count <= starts.len() {
-            judge_image(data, &im[..words], &starts[..count], h, o);
+            return judge_image(rt, data, &im[..words], &starts[..count], h, o);
         }
     }
+    Ok(())
 }
 
-fn judge_image(data: &[u8], im: &[u32], starts: &[u64], h: Head, o: Options) {
+fn judge_image<R: Print + Eprint + Env + Files>(rt: &R, data: &[u8], im: &[u32], starts: &[u64], h: Head, o: Options) -> io::Result<()> {
     match image::check_image(im, data) {
         Judged::Broken => refusals::broken_image(
+            rt,
             faults::broken_rule(im, data.len()),
             im,
             data.len(),
         ),
-        Judged::Sound => walk_image(data, im, starts, h, o),
+        Judged::Sound => walk_image(rt, data, im, starts, h, o),
     }
 }
 
@@ -77,19 +85,19 @@ fn judge_image(data: &[u8], im: &[u32], starts: &[u64], h: Head, o: Options) {
 // clear than a small program takes to walk.
 const FEW_STARTS: usize = 256;
 
-fn walk_image(data: &[u8], im: &[u32], starts: &[u64], h: Head, o: Options)
+fn walk_image<R: Print + Eprint + Env + Files>(rt: &R, data: &[u8], im: &[u32], starts: &[u64], h: Head, o: Options) -> io::Result<()>
     requires { sound im.now (length «data».now) ≡ true }
 {
     if starts.len() <= FEW_STARTS {
-        if walk_few(data, im, starts, h, o) {
-            return;
+        if walk_few(rt, data, im, starts, h, o)? {
+            return Ok(());
         }
     }
-    walk_many(data, im, starts, h, o);
+    walk_many(rt, data, im, starts, h, o)
 }
 
 // Whether the small room was enough. If not, nothing was written.
-fn walk_few(data: &[u8], im: &[u32], starts: &[u64], h: Head, o: Options) -> bool
+fn walk_few<R: Print + Eprint + Env + Files>(rt: &R, data: &[u8], im: &[u32], starts: &[u64], h: Head, o: Options) -> io::Result<bool>
     requires { sound im.now (length «data».now) ≡ true }
 {
     let two = h.two;
@@ -112,10 +120,10 @@ fn walk_few(data: &[u8], im: &[u32], starts: &[u64], h: Head, o: Options) -> boo
         &mut entries,
     );
     if is_full(w) {
-        return false;
+        return Ok(false);
     }
-    show(data, im, starts, &map, w, o);
-    true
+    show(rt, data, im, starts, &map, w, o)?;
+    Ok(true)
 }
 
 fn is_full(w: Walked) -> bool {
@@ -126,7 +134,7 @@ fn is_full(w: Walked) -> bool {
     }
 }
 
-fn walk_many(data: &[u8], im: &[u32], starts: &[u64], h: Head, o: Options)
+fn walk_many<R: Print + Eprint + Env + Files>(rt: &R, data: &[u8], im: &[u32], starts: &[u64], h: Head, o: Options) -> io::Result<()>
     requires { sound im.now (length «data».now) ≡ true }
 {
     let two = h.two;
@@ -148,29 +156,31 @@ fn walk_many(data: &[u8], im: &[u32], starts: &[u64], h: Head, o: Options)
         &mut stack,
         &mut entries,
     );
-    show(data, im, starts, &map, w, o);
+    show(rt, data, im, starts, &map, w, o)
 }
 
 // What the walk answered, in the order in which a person wants it.
-fn show(data: &[u8], im: &[u32], starts: &[u64], map: &[u32], w: Walked, o: Options)
+fn show<R: Print + Eprint + Env + Files>(rt: &R, data: &[u8], im: &[u32], starts: &[u64], map: &[u32], w: Walked, o: Options) -> io::Result<()>
     requires { sound im.now (length «data».now) ≡ true }
 {
     let answer = w.answer;
     match answer {
         WalkAnswer::BrokenImage => refusals::broken_image(
+            rt,
             faults::broken_rule(im, data.len()),
             im,
             data.len(),
         ),
-        WalkAnswer::NotCode => refusals::bad_start(im, starts),
-        WalkAnswer::Misaligned => refusals::bad_start(im, starts),
-        WalkAnswer::MapTooSmall => refusals::small_map(),
-        WalkAnswer::Done => show_all(data, im, starts, map, w, o, b"ok"),
-        WalkAnswer::StackFull => show_all(data, im, starts, map, w, o, b"answer 5"),
+        WalkAnswer::NotCode => refusals::bad_start(rt, im, starts),
+        WalkAnswer::Misaligned => refusals::bad_start(rt, im, starts),
+        WalkAnswer::MapTooSmall => refusals::small_map(rt),
+        WalkAnswer::Done => show_all(rt, data, im, starts, map, w, o, b"ok"),
+        WalkAnswer::StackFull => show_all(rt, data, im, starts, map, w, o, b"answer 5"),
     }
 }
 
-fn show_all(
+fn show_all<R: Print + Eprint + Env + Files>(
+    rt: &R,
     data: &[u8],
     im: &[u32],
     starts: &[u64],
@@ -178,16 +188,15 @@ fn show_all(
     w: Walked,
     o: Options,
     last: &[u8],
-)
+) -> io::Result<()>
     requires { sound im.now (length «data».now) ≡ true }
 {
-    counts::show(im, starts.len() as u64, map, w, o.lines);
-    sections::show(im, map, o.lines);
+    counts::show(rt, im, starts.len() as u64, map, w, o.lines)?;
+    sections::show(rt, im, map, o.lines)?;
     if o.report != 0 {
-        if !save::report(im, data, map, o.report) {
-            say::line(b"report not written");
-            return;
+        if !save::report(rt, im, data, map, o.report) {
+            return say::line(rt, b"report not written");
         }
     }
-    say::line(last);
+    say::line(rt, last)
 }

@@ -41,3 +41,10 @@ pub(crate) fn report() -> [u8; 262666]
 {
     [0; 262666]
 }
+
+// The name of the report's file.
+pub(crate) fn path() -> [u8; 4096]
+    ensures { 4096 ≡ length result }
+{
+    [0; 4096]
+}

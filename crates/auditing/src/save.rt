@@ -1,12 +1,25 @@
 // The report's bytes in a file.
+ghost use Rattle.std.specs.Prelude.{◌≤◌};
+
+use crate::options::argument;
 use crate::rooms;
 use report::Wrote;
+use std::fs::File;
+use std::io;
+use std::io::Write;
+use std::rt::{Env, Files};
 
 // The report of a map, written to the file that an argument names. False where there is no report or the file cannot be written.
-pub(crate) fn report(im: &[u32], data: &[u8], map: &[u32], arg: usize) -> bool {
+pub(crate) fn report<R: Eprint + Env + Files>(
+    rt: &R,
+    im: &[u32],
+    data: &[u8],
+    map: &[u32],
+    arg: usize,
+) -> bool {
     let mut bytes = rooms::report();
     match report::write_report(im, data, map, &mut bytes) {
-        Wrote::Bytes(n) => save(&bytes, n, arg),
+        Wrote::Bytes(n) => save(rt, &bytes, n, arg),
         Wrote::BrokenImage => false,
         Wrote::SmallMap => false,
         Wrote::NoRoom => false,
@@ -14,18 +27,56 @@ pub(crate) fn report(im: &[u32], data: &[u8], map: &[u32], arg: usize) -> bool {
 }
 
 // The first n bytes.
-fn save(bytes: &[u8], n: usize, arg: usize) -> bool {
-    let mut path = io::buffer();
-    let k = os::arg(arg, &mut path);
-    let fd = os::open_overwrite(&path[..k]);
-    if fd < 0 {
-        os::fail(&path[..k]);
-        return false;
+fn save<R: Eprint + Env + Files>(rt: &R, bytes: &[u8], n: usize, arg: usize) -> bool {
+    let mut path = rooms::path();
+    let k = argument(rt, arg, &mut path);
+    match std::str::from_utf8(&path[..k]) {
+        Ok(name) => save_as(rt, bytes, n, name),
+        Err(_) => {
+            let _ = rt.eprintln("the report's name is not UTF-8");
+            false
+        }
     }
+}
+
+fn save_as<R: Eprint + Files>(rt: &R, bytes: &[u8], n: usize, name: &str) -> bool {
+    match File::create(rt, name) {
+        Ok(file) => written::<R>(file, bytes, n),
+        Err(e) => {
+            fail(rt, name, &e);
+            false
+        }
+    }
+}
+
+fn written<R: Files>(file: R::File, bytes: &[u8], n: usize) -> bool {
+    let mut file = file;
     if n <= bytes.len() {
-        let written = io::write_all(fd, &bytes[..n]);
-        libc::close(fd);
-        return written;
+        return file.write_all(&bytes[..n]).is_ok();
     }
     false
+}
+
+// As many bytes as the system's words for an error take, at most.
+const WORDS: usize = 128;
+
+// The name and what the system says of it, without the number in brackets that follows.
+fn fail(rt: &impl Eprint, name: &str, e: &io::Error) {
+    let mut text = [0u8; WORDS];
+    let n = describe(e, &mut text);
+    let said = std::str::from_utf8(&text[..n]).unwrap_or("");
+    let words = match said.split_once(" (os error ") {
+        Some((before, _)) => before,
+        None => said,
+    };
+    let _ = eprintln!(rt; "{name}: {words}");
+}
+
+// The error's text at the start of a buffer: its length.
+fn describe(e: &io::Error, text: &mut [u8; WORDS]) -> usize
+    ensures { result ≤ 128 }
+{
+    let mut rest = text.as_mut_slice();
+    let _ = write!(rest, "{e}");
+    WORDS.saturating_sub(rest.len())
 }

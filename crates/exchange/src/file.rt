@@ -1,9 +1,11 @@
 // A file of cases, record after record, and its current image; answers go out a line at a time.
-ghost use Rattle.std.specs.Prelude.{◌≤◌, length};
+ghost use Rattle.std.specs.Prelude.{◌≤◌, length, IfOk};
 
 use crate::{print, read};
 use image::Judged;
-use libc::{STDIN_FILENO, STDOUT_FILENO};
+use std::io;
+use std::io::Read;
+use streams::read_full;
 
 // The next record's kind and length in words, where there is one.
 #[derive(Clone, Copy)]
@@ -13,14 +15,14 @@ pub struct Head {
     pub length: u32,
 }
 
-pub fn next_head() -> Head {
+pub fn next_head<R: Read>(input: &mut R) -> io::Result<Head> {
     let mut eight = [0u8; 8];
-    let n = io::read_full(STDIN_FILENO, &mut eight);
-    Head {
+    let n = read_full(input, &mut eight)?;
+    Ok(Head {
         there: n == 8,
         kind: words::bytes::word_at(&eight, 0),
         length: words::bytes::word_at(&eight, 4),
-    }
+    })
 }
 
 pub fn least(a: usize, b: usize) -> usize
@@ -30,19 +32,25 @@ pub fn least(a: usize, b: usize) -> usize
 }
 
 // Reads the payload's bytes and answers how many words were there.
-fn read_raw(raw: &mut [u8], count: u32) -> usize {
+fn read_raw<R: Read>(input: &mut R, raw: &mut [u8], count: u32) -> io::Result<usize> {
     let n = least(count as usize * 4, raw.len());
-    io::read_full(STDIN_FILENO, &mut raw[..n]) / 4
+    let got = read_full(input, &mut raw[..n])?;
+    Ok(got / 4)
 }
 
 // The payload's words, as many as there are: how many.
-pub fn next_payload(raw: &mut [u8], payload: &mut [u32], count: u32) -> usize
-    ensures { result ≤ length payload.new }
+pub fn next_payload<R: Read>(
+    input: &mut R,
+    raw: &mut [u8],
+    payload: &mut [u32],
+    count: u32,
+) -> io::Result<usize>
+    ensures { IfOk result (λ n. n ≤ length payload.new) }
 {
-    let got = read_raw(raw, count);
+    let got = read_raw(input, raw, count)?;
     let n = least(got, payload.len());
     to_words(raw, payload, n);
-    n
+    Ok(n)
 }
 
 // The first n words of the bytes.
@@ -148,9 +156,9 @@ fn to_text(line: &[u32], n: usize, text: &mut [u8]) -> usize
 }
 
 // An answer of n words goes out as one line.
-pub fn flush(line: &[u32], n: usize, text: &mut [u8]) {
+pub fn flush(rt: &impl Print, line: &[u32], n: usize, text: &mut [u8]) -> io::Result<()> {
     let words = least(n, line.len());
     let end = to_text(line, words, text);
     let bytes = least(end, text.len());
-    io::write_all(STDOUT_FILENO, &text[..bytes]);
+    rt.write_all(&text[..bytes])
 }

@@ -6,8 +6,9 @@ ghost use Rattle.std.specs.Prelude.{◌≡◌, ◌<◌, length};
 ghost use Rattle.stack.specs.Stack.{Stack};
 
 use executor::{Answer, ExecCbResult, Execution, Outcome, Phase};
-use libc::STDOUT_FILENO;
 use places::SectionAddress;
+use std::io;
+use std::io::Read;
 use vm::{GprValue, VM};
 
 // Room for 3,000 states.
@@ -102,12 +103,12 @@ fn asked(words: &[u32], n: usize, code: &[u8], mode: u8) -> u8 {
     next(words, n, &mut map, code, mode)
 }
 
-fn main() {
+fn main(rt: HostRuntime) -> io::Result<()> {
     let mut buffer = [0u8; 1];
-    libc::read(0, &mut buffer);
+    rt.stdin().read(&mut buffer)?;
     let mut words = room();
     let n = fill(&mut words, start());
     let code = code();
     let out = [asked(&words, n, &code, buffer[0]), b'\n'];
-    io::write_all(STDOUT_FILENO, &out);
+    rt.write_all(&out)
 }

@@ -7,7 +7,7 @@ use image_file::Head;
 use places::{MaybeAddress, SectionAddress};
 use vm::MaybeBase;
 
-pub(crate) const GIVEN: usize = 9;
+pub const GIVEN: usize = 9;
 
 pub(crate) fn base_in(g: &[u32; GIVEN], k: usize) -> MaybeBase
     requires { k < 8 }

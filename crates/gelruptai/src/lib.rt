@@ -1,4 +1,4 @@
-// What C and Rust link: the product's entry points over numbers and slices, as include/gelruptai.h declares them.
+// The product's entry points over numbers and slices: what crate gelruptai_c exports to C and Rust (include/gelruptai.h).
 // They require nothing: a slice is a pointer and a length, and what a pointer owes is said in the header.
 #![tactic(auto)]
 
@@ -14,7 +14,8 @@ ghost use Rattle.image_file.specs.Reading.{answered, image_left, starts_left};
 ghost use Rattle.gelruptai.specs.Numbers.{rule_number, table_number, file_number, length_of};
 ghost use Rattle.gelruptai.specs.Handed.{walk_on, table_on, stack_words, table_counts, file_given, file_counts};
 
-use given::{GIVEN, base_in, maybe_in, place_in, words_of};
+pub use given::GIVEN;
+use given::{base_in, maybe_in, place_in, words_of};
 use image::Judged;
 use image_file::Parsed;
 use numbers::{read_number, rule_number, table_number, walk_number, wrong_number};
@@ -24,16 +25,14 @@ use slot::SLOT_WORDS;
 use walk::TABLE_ROOM;
 
 // The number of the first rule that an image of so many data bytes breaks, 0 where it is sound.
-#[unsafe(no_mangle)]
-pub extern "C" fn gelruptai_check_image(im: &[u32], data_length: usize) -> u32
+pub fn gelruptai_check_image(im: &[u32], data_length: usize) -> u32
     ensures { result ≡ rule_number (broken_rule im.now data_length) }
 {
     rule_number(faults::broken_rule(im, data_length))
 }
 
 // How many Code words an image has, which are the bits that a map needs; 0 for a broken image.
-#[unsafe(no_mangle)]
-pub extern "C" fn gelruptai_code_words(im: &[u32], data: &[u8]) -> usize
+pub fn gelruptai_code_words(im: &[u32], data: &[u8]) -> usize
     ensures { result ≡ pick (sound im.now (length «data».now)) (code_words im.now) 0 }
 {
     match image::check_image(im, data) {
@@ -43,8 +42,7 @@ pub extern "C" fn gelruptai_code_words(im: &[u32], data: &[u8]) -> usize
 }
 
 // How many words a stack needs for so many waiting states: the least that will do (proofs/Rooms.antt).
-#[unsafe(no_mangle)]
-pub extern "C" fn gelruptai_stack_words(states: u32) -> usize
+pub fn gelruptai_stack_words(states: u32) -> usize
     ensures { result ≡ stack_words states }
 {
     2 + states as usize * (SLOT_WORDS + 1)
@@ -52,8 +50,7 @@ pub extern "C" fn gelruptai_stack_words(states: u32) -> usize
 
 // `walk::walk`: 0, or 1, 4, 2, 3, which touch no buffer but `counts`, or 5. `counts` becomes: instructions stepped, blocks begun,
 // tables read, tables not read, states that wait still.
-#[unsafe(no_mangle)]
-pub extern "C" fn gelruptai_walk(
+pub fn gelruptai_walk(
     im: &[u32],
     data: &[u8],
     starts: &[u64],
@@ -79,8 +76,7 @@ pub extern "C" fn gelruptai_walk(
 
 // `jump_tables::uniq_jump_table_entries` for the table at a place: 0, 1, 7, 8, 9, 10. Of `given` the function's bounds are read.
 // `counts` becomes: entries, bytes passed.
-#[unsafe(no_mangle)]
-pub extern "C" fn gelruptai_table(
+pub fn gelruptai_table(
     im: &[u32],
     data: &[u8],
     section: u32,
@@ -104,8 +100,7 @@ pub extern "C" fn gelruptai_table(
 }
 
 // `report::write_report`: 0, 1, 4, 10. `written` becomes the report's length, 0 where it is refused.
-#[unsafe(no_mangle)]
-pub extern "C" fn gelruptai_write_report(
+pub fn gelruptai_write_report(
     im: &[u32],
     data: &[u8],
     map: &[u32],
@@ -122,8 +117,7 @@ pub extern "C" fn gelruptai_write_report(
 }
 
 // `report::read_report`: 0, 1, 4, 13.
-#[unsafe(no_mangle)]
-pub extern "C" fn gelruptai_read_report(
+pub fn gelruptai_read_report(
     im: &[u32],
     data: &[u8],
     bytes: &[u8],
@@ -137,8 +131,7 @@ pub extern "C" fn gelruptai_read_report(
 
 // `image_file::read_file`: 0, or the number of what is wrong, which touches nothing but `counts`. `counts` becomes: image words, starts,
 // the byte where the data begins, data bytes; or the byte at which something is wrong, and zeros.
-#[unsafe(no_mangle)]
-pub extern "C" fn gelruptai_read_file(
+pub fn gelruptai_read_file(
     file: &[u8],
     im: &mut [u32],
     starts: &mut [u64],

@@ -7,6 +7,8 @@ mod scripts;
 
 use exchange::file;
 use exchange::file::{Current, Head};
+use std::io;
+use std::io::Read;
 
 // More records than any file has: the loop over them has to end.
 const MOST_RECORDS: usize = 100000000;
@@ -42,7 +44,9 @@ fn answered(
 }
 
 // Answers one record and hands on the current image.
-fn one_record(
+fn one_record<R: Read>(
+    rt: &impl Print,
+    input: &mut R,
     h: Head,
     raw: &mut [u8],
     payload: &mut [u32],
@@ -50,33 +54,50 @@ fn one_record(
     data: &mut [u8],
     line: &mut [u32],
     before: Current,
-) -> Current {
-    let n = file::next_payload(raw, payload, h.length);
+) -> io::Result<Current> {
+    let n = file::next_payload(input, raw, payload, h.length)?;
     let now = file::advance(h.kind, payload, n, im, data, before);
     let end = answered(h.kind, payload, n, im, now.words, data, now.bytes, line);
-    file::flush(line, end, raw);
-    now
+    file::flush(rt, line, end, raw)?;
+    Ok(now)
 }
 
 // Answers each record in turn.
-fn run(raw: &mut [u8], payload: &mut [u32], im: &mut [u32], data: &mut [u8], line: &mut [u32]) {
+fn run<R: Read>(
+    rt: &impl Print,
+    input: &mut R,
+    raw: &mut [u8],
+    payload: &mut [u32],
+    im: &mut [u32],
+    data: &mut [u8],
+    line: &mut [u32],
+) -> io::Result<()> {
     let mut now = Current { words: 0, bytes: 0 };
     let mut left: usize = MOST_RECORDS;
     while 0 < left {
-        let h = file::next_head();
+        let h = file::next_head(input)?;
         if !h.there {
-            return;
+            return Ok(());
         }
-        now = one_record(h, raw, payload, im, data, line, now);
+        now = one_record(rt, input, h, raw, payload, im, data, line, now)?;
         left -= 1;
     }
+    Ok(())
 }
 
-fn main() {
+fn main(rt: HostRuntime) -> io::Result<()> {
     let mut raw = exchange::rooms::raw();
     let mut payload = exchange::rooms::payload();
     let mut im = exchange::rooms::image();
     let mut data = exchange::rooms::bytes();
     let mut line = exchange::rooms::line();
-    run(&mut raw, &mut payload, &mut im, &mut data, &mut line);
+    run(
+        &rt,
+        &mut rt.stdin(),
+        &mut raw,
+        &mut payload,
+        &mut im,
+        &mut data,
+        &mut line,
+    )
 }

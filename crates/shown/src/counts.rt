@@ -4,53 +4,78 @@ ghost use Rattle.image.specs.Laid.{Laid};
 ghost use Rattle.shown.specs.Counted.{tenths_of};
 
 use crate::say::{count, line, number};
+use std::io;
 use turns::Walked;
 
-pub fn show(im: &[u32], starts: u64, map: &[u32], w: Walked, lines: bool)
+pub fn show(
+    rt: &impl Print,
+    im: &[u32],
+    starts: u64,
+    map: &[u32],
+    w: Walked,
+    lines: bool,
+) -> io::Result<()>
     requires { Laid im.now }
 {
-    show_kind(im[0], lines);
-    show_tables(im[1], im[2], im[3], im[4], im[5], lines);
-    count(lines, b"starts           ", b"starts ", starts);
+    show_kind(rt, im[0], lines)?;
+    show_tables(rt, im[1], im[2], im[3], im[4], im[5], lines)?;
+    count(rt, lines, b"starts           ", b"starts ", starts)?;
     let words = image::code::code_words(im);
     let seen = visited::count(map, words);
-    count(lines, b"code words       ", b"code_words ", words as u64);
-    show_visited(seen as u64, words as u64, lines);
-    show_walk(w, lines);
+    count(
+        rt,
+        lines,
+        b"code words       ",
+        b"code_words ",
+        words as u64,
+    )?;
+    show_visited(rt, seen as u64, words as u64, lines)?;
+    show_walk(rt, w, lines)
 }
 
-fn show_kind(kind: u32, lines: bool) {
+fn show_kind(rt: &impl Print, kind: u32, lines: bool) -> io::Result<()> {
     if lines {
-        count(lines, b"", b"kind ", kind as u64);
-        return;
+        return count(rt, lines, b"", b"kind ", kind as u64);
     }
     if kind == 0 {
-        line(b"image            Executable");
-        return;
+        return line(rt, b"image            Executable");
     }
-    line(b"image            Relocatable");
+    line(rt, b"image            Relocatable")
 }
 
 // The module number, and how many records each table of the image has.
-fn show_tables(module: u32, sections: u32, bound: u32, unbound: u32, symbols: u32, lines: bool) {
-    count(lines, b"module           ", b"module ", module as u64);
-    count(lines, b"sections         ", b"sections ", sections as u64);
-    count(lines, b"bound            ", b"bound ", bound as u64);
-    count(lines, b"unbound          ", b"unbound ", unbound as u64);
-    count(lines, b"object symbols   ", b"symbols ", symbols as u64);
+fn show_tables(
+    rt: &impl Print,
+    module: u32,
+    sections: u32,
+    bound: u32,
+    unbound: u32,
+    symbols: u32,
+    lines: bool,
+) -> io::Result<()> {
+    count(rt, lines, b"module           ", b"module ", module as u64)?;
+    count(
+        rt,
+        lines,
+        b"sections         ",
+        b"sections ",
+        sections as u64,
+    )?;
+    count(rt, lines, b"bound            ", b"bound ", bound as u64)?;
+    count(rt, lines, b"unbound          ", b"unbound ", unbound as u64)?;
+    count(rt, lines, b"object symbols   ", b"symbols ", symbols as u64)
 }
 
 // The visited words and, for a person, what part that is.
-fn show_visited(part: u64, whole: u64, lines: bool) {
+fn show_visited(rt: &impl Print, part: u64, whole: u64, lines: bool) -> io::Result<()> {
     if lines {
-        count(lines, b"", b"visited ", part);
-        return;
+        return count(rt, lines, b"", b"visited ", part);
     }
     let t = tenths(part, whole);
-    number(b"visited          ", part);
-    number(b", ", t / 10);
-    number(b".", t % 10);
-    line(b" %");
+    number(rt, b"visited          ", part)?;
+    number(rt, b", ", t / 10)?;
+    number(rt, b".", t % 10)?;
+    line(rt, b" %")
 }
 
 // Tenths of a percent of a part of at most 2^40.
@@ -66,31 +91,39 @@ fn tenths(part: u64, whole: u64) -> u64
     0
 }
 
-fn show_walk(w: Walked, lines: bool) {
-    count(lines, b"blocks begun     ", b"blocks ", w.begun);
-    count(lines, b"steps            ", b"steps ", w.stepped);
-    count(lines, b"tables read      ", b"tables_read ", w.read);
-    count(lines, b"tables not read  ", b"tables_not_read ", w.not_read);
+fn show_walk(rt: &impl Print, w: Walked, lines: bool) -> io::Result<()> {
+    count(rt, lines, b"blocks begun     ", b"blocks ", w.begun)?;
+    count(rt, lines, b"steps            ", b"steps ", w.stepped)?;
+    count(rt, lines, b"tables read      ", b"tables_read ", w.read)?;
+    count(
+        rt,
+        lines,
+        b"tables not read  ",
+        b"tables_not_read ",
+        w.not_read,
+    )?;
     warn(
+        rt,
         w.not_read,
         lines,
         b"the cases of a table that was not read are not followed: look at it by hand",
-    );
-    count(lines, b"states waiting   ", b"waiting ", w.held as u64);
+    )?;
+    count(rt, lines, b"states waiting   ", b"waiting ", w.held as u64)?;
     warn(
+        rt,
         w.held as u64,
         lines,
         b"stopped, 5: every slot of the stack is held. What is listed was reached; more may be",
-    );
+    )
 }
 
 // A warning for a person, where a count is not 0.
-fn warn(n: u64, lines: bool, text: &[u8]) {
+fn warn(rt: &impl Print, n: u64, lines: bool, text: &[u8]) -> io::Result<()> {
     if lines {
-        return;
+        return Ok(());
     }
     if n == 0 {
-        return;
+        return Ok(());
     }
-    line(text);
+    line(rt, text)
 }

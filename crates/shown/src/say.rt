@@ -1,33 +1,33 @@
 // Text, numbers and words on standard output.
-use libc::STDOUT_FILENO;
+use std::io;
 
-pub fn text(t: &[u8]) {
-    io::write_all(STDOUT_FILENO, t);
+pub fn text(rt: &impl Print, t: &[u8]) -> io::Result<()> {
+    rt.write_all(t)
 }
 
-pub fn line(t: &[u8]) {
-    text(t);
-    text(b"\n");
+pub fn line(rt: &impl Print, t: &[u8]) -> io::Result<()> {
+    text(rt, t)?;
+    text(rt, b"\n")
 }
 
 // A text, and a number in decimal.
-pub fn number(label: &[u8], n: u64) {
-    text(label);
-    io::print_decimal(STDOUT_FILENO, n);
+pub fn number(rt: &impl Print, label: &[u8], n: u64) -> io::Result<()> {
+    text(rt, label)?;
+    print!(rt; "{n}")
 }
 
 // A text, and a word in eight hex digits.
-pub fn word(label: &[u8], n: u32) {
-    text(label);
-    io::print_hex(STDOUT_FILENO, n as u64, 8);
+pub fn word(rt: &impl Print, label: &[u8], n: u32) -> io::Result<()> {
+    text(rt, label)?;
+    print!(rt; "{n:08x}")
 }
 
 // A line with a number: under a label for a person, under a key for a script.
-pub fn count(lines: bool, label: &[u8], key: &[u8], n: u64) {
+pub fn count(rt: &impl Print, lines: bool, label: &[u8], key: &[u8], n: u64) -> io::Result<()> {
     if lines {
-        number(key, n);
+        number(rt, key, n)?;
     } else {
-        number(label, n);
+        number(rt, label, n)?;
     }
-    text(b"\n");
+    text(rt, b"\n")
 }

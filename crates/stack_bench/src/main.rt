@@ -10,8 +10,9 @@ ghost use Rattle.stack.specs.Stack.{Stack};
 
 use cells::STATE_WORDS;
 use clones::Made;
-use libc::STDOUT_FILENO;
 use places::{MaybeAddress, SectionAddress};
+use std::io;
+use std::io::Read;
 use vm::{Cr, Gpr, GprValue, VM};
 
 // Room for 3,000 states.
@@ -179,12 +180,12 @@ fn run(words: &mut [u32], mode: u8) -> u32 {
     4
 }
 
-fn main() {
+fn main(rt: HostRuntime) -> io::Result<()> {
     let mut buffer = [0u8; 1];
-    libc::read(0, &mut buffer);
+    rt.stdin().read(&mut buffer)?;
     let mode = buffer[0];
     let mut words = room();
     let r = run(&mut words, mode);
     let out = [b'a' + ((r % 16) as u8), b'\n'];
-    io::write_all(STDOUT_FILENO, &out);
+    rt.write_all(&out)
 }

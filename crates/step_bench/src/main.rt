@@ -6,8 +6,9 @@ ghost use Rattle.std.specs.Prelude.{◌≡◌, true, length};
 ghost use Rattle.image.specs.Rules.{tables_sound};
 
 use cells::STATE_WORDS;
-use libc::{STDIN_FILENO, STDOUT_FILENO};
 use places::SectionAddress;
+use std::io;
+use streams::read_full;
 
 fn room() -> [u8; 65536]
     ensures { 65536 ≡ length result }
@@ -36,23 +37,25 @@ fn repeat(im: &[u32], code: &[u8], turns: u32) -> u32
 }
 
 // The words in an image of their own: Executable, one Code section at 4096.
-fn measure(code: &[u8], turns: u32) {
+fn measure(rt: &impl Print, code: &[u8], turns: u32) -> io::Result<()> {
     let size = (code.len() % 65536) as u32;
     let im = [0, 0, 1, 0, 0, 0, 4096, size, 0, 0, 0, size];
     if image::judge::tables_sound(&im) {
-        io::print_decimal(STDOUT_FILENO, repeat(&im, code, turns) as u64);
-        io::write_all(STDOUT_FILENO, b"\n");
+        let stopped = repeat(&im, code, turns);
+        println!(rt; "{stopped}")
     } else {
-        io::write_all(STDOUT_FILENO, b"no image\n");
+        rt.write_all(b"no image\n")
     }
 }
 
-fn main() {
+fn main(rt: HostRuntime) -> io::Result<()> {
+    let mut input = rt.stdin();
     let mut four = [0u8; 4];
-    let got = io::read_full(STDIN_FILENO, &mut four);
+    let got = read_full(&mut input, &mut four)?;
     let mut buffer = room();
-    let n = io::read_full(STDIN_FILENO, &mut buffer);
+    let n = read_full(&mut input, &mut buffer)?;
     if got == 4 {
-        measure(&buffer[..n], words::bytes::word_at(&four, 0));
+        return measure(&rt, &buffer[..n], words::bytes::word_at(&four, 0));
     }
+    Ok(())
 }

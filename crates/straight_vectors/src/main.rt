@@ -4,9 +4,10 @@
 
 ghost use Rattle.std.specs.Prelude.{◌<◌, ◌+◌, ◌≤◌, ◌≡◌, length};
 
-use libc::{STDIN_FILENO, STDOUT_FILENO};
 use places::{MaybeAddress, SectionAddress};
+use std::io;
 use step::{StepResult, Stepped};
+use streams::read_full;
 use vm::{Gpr, GprValue, VM};
 
 // The classes, and the bytes of a record: its class, the word, the registers before and after it.
@@ -126,65 +127,64 @@ fn tally_of(s: &[u8], class: usize) -> Tally {
 }
 
 // The name of a class, as vectors/straight has it.
-fn print_name(class: usize) {
+fn print_name(rt: &impl Print, class: usize) -> io::Result<()> {
     match class {
-        0 => say(b"add"),
-        1 => say(b"addi"),
-        2 => say(b"addic"),
-        3 => say(b"addic."),
-        4 => say(b"addis"),
-        5 => say(b"subf"),
-        6 => say(b"subfc"),
-        7 => say(b"subfic"),
-        8 => say(b"ori"),
-        9 => say(b"or"),
-        10 => say(b"rlwinm"),
-        11 => say(b"rlwnm"),
-        _ => print_corner(class),
+        0 => say(rt, b"add"),
+        1 => say(rt, b"addi"),
+        2 => say(rt, b"addic"),
+        3 => say(rt, b"addic."),
+        4 => say(rt, b"addis"),
+        5 => say(rt, b"subf"),
+        6 => say(rt, b"subfc"),
+        7 => say(rt, b"subfic"),
+        8 => say(rt, b"ori"),
+        9 => say(rt, b"or"),
+        10 => say(rt, b"rlwinm"),
+        11 => say(rt, b"rlwnm"),
+        _ => print_corner(rt, class),
     }
 }
 
-fn print_corner(class: usize) {
+fn print_corner(rt: &impl Print, class: usize) -> io::Result<()> {
     match class {
-        12 => say(b"addi with ra_of 0"),
-        13 => say(b"addis with ra_of 0"),
-        14 => say(b"addic with ra_of 0"),
-        15 => say(b"subfic with ra_of 0"),
-        16 => say(b"or with rs_of equal to rb_of"),
-        17 => say(b"rlwnm by 32 and more"),
-        18 => say(b"rlwinm with MB above ME"),
-        19 => say(b"addi with SIMM -32768"),
-        20 => say(b"subfic with SIMM -32768"),
-        21 => say(b"addo."),
-        22 => say(b"subfo"),
-        23 => say(b"or."),
-        _ => say(b"rlwnm."),
+        12 => say(rt, b"addi with rA 0"),
+        13 => say(rt, b"addis with rA 0"),
+        14 => say(rt, b"addic with rA 0"),
+        15 => say(rt, b"subfic with rA 0"),
+        16 => say(rt, b"or with rS equal to rB"),
+        17 => say(rt, b"rlwnm by 32 and more"),
+        18 => say(rt, b"rlwinm with MB above ME"),
+        19 => say(rt, b"addi with SIMM -32768"),
+        20 => say(rt, b"subfic with SIMM -32768"),
+        21 => say(rt, b"addo."),
+        22 => say(rt, b"subfo"),
+        23 => say(rt, b"or."),
+        _ => say(rt, b"rlwnm."),
     }
 }
 
-fn say(text: &[u8]) {
-    io::write_all(STDOUT_FILENO, text);
+fn say(rt: &impl Print, text: &[u8]) -> io::Result<()> {
+    rt.write_all(text)
 }
 
-fn print_line(class: usize, t: Tally) {
-    print_name(class);
-    say(b": ");
-    io::print_decimal(STDOUT_FILENO, t.words as u64);
-    say(b" words, ");
-    io::print_decimal(STDOUT_FILENO, t.alike as u64);
-    say(b" alike\n");
+fn print_line(rt: &impl Print, class: usize, t: Tally) -> io::Result<()> {
+    print_name(rt, class)?;
+    let words = t.words;
+    let alike = t.alike;
+    println!(rt; ": {words} words, {alike} alike")
 }
 
-fn print_all(records: &[u8]) {
+fn print_all(rt: &impl Print, records: &[u8]) -> io::Result<()> {
     let mut class = 0;
     while class < CLASSES {
-        print_line(class, tally_of(records, class));
+        print_line(rt, class, tally_of(records, class))?;
         class += 1;
     }
+    Ok(())
 }
 
-fn main() {
+fn main(rt: HostRuntime) -> io::Result<()> {
     let mut buffer = room();
-    let n = io::read_full(STDIN_FILENO, &mut buffer);
-    print_all(&buffer[..n]);
+    let n = read_full(&mut rt.stdin(), &mut buffer)?;
+    print_all(&rt, &buffer[..n])
 }

@@ -6,7 +6,8 @@ mod print;
 mod read;
 mod rooms;
 
-use libc::STDIN_FILENO;
+use std::io;
+use streams::read_full;
 use turns::{WalkAnswer, Walked};
 
 // `at` is where the walk's payload stands.
@@ -45,6 +46,7 @@ fn repeat(
 
 // The image's words, its data and the starts are parts of their buffers.
 fn in_parts(
+    rt: &impl Print,
     file: &[u8],
     at: usize,
     im: &[u32],
@@ -56,7 +58,7 @@ fn in_parts(
     map: &mut [u32],
     stack: &mut [u32],
     entries: &mut [u64; 1024],
-) {
+) -> io::Result<()> {
     if words <= im.len() {
         if end <= file.len() {
             if first <= end {
@@ -71,21 +73,23 @@ fn in_parts(
                         stack,
                         entries,
                     );
-                    print::answer(r, map, read::count(file, read::plus(at, 1)));
+                    return print::answer(rt, r, map, read::count(file, read::plus(at, 1)));
                 }
             }
         }
     }
+    Ok(())
 }
 
 fn measure(
+    rt: &impl Print,
     file: &[u8],
     im: &mut [u32],
     starts: &mut [u64],
     map: &mut [u32],
     stack: &mut [u32],
     entries: &mut [u64; 1024],
-) {
+) -> io::Result<()> {
     let words = read::count(file, 3);
     let size = read::count(file, words + 4);
     let first = words * 4 + 20;
@@ -94,6 +98,7 @@ fn measure(
     read::copy_keys(file, at + 13, starts);
     let many = read::count(file, at + 12);
     in_parts(
+        rt,
         file,
         at,
         im,
@@ -105,23 +110,24 @@ fn measure(
         map,
         stack,
         entries,
-    );
+    )
 }
 
-fn main() {
+fn main(rt: HostRuntime) -> io::Result<()> {
     let mut file = rooms::file();
     let mut im = rooms::image();
     let mut starts = rooms::starts();
     let mut map = rooms::map();
     let mut stack = rooms::stack();
     let mut entries = [0u64; 1024];
-    io::read_full(STDIN_FILENO, &mut file);
+    read_full(&mut rt.stdin(), &mut file)?;
     measure(
+        &rt,
         &file,
         &mut im,
         &mut starts,
         &mut map,
         &mut stack,
         &mut entries,
-    );
+    )
 }

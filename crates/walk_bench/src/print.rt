@@ -1,5 +1,5 @@
 // The walk's answer as a line: words in eight hex digits, a space between them.
-use libc::STDOUT_FILENO;
+use std::io;
 use turns::{WalkAnswer, Walked};
 
 fn digit(n: u32) -> u8 {
@@ -7,7 +7,7 @@ fn digit(n: u32) -> u8 {
     if d < 10 { d + 48 } else { d + 87 }
 }
 
-fn word(w: u32, after: u8) {
+fn word(rt: &impl Print, w: u32, after: u8) -> io::Result<()> {
     let line = [
         digit(w >> 28),
         digit(w >> 24),
@@ -19,12 +19,12 @@ fn word(w: u32, after: u8) {
         digit(w),
         after,
     ];
-    io::write_all(STDOUT_FILENO, &line);
+    rt.write_all(&line)
 }
 
-fn long(n: u64) {
-    word((n / 0x1_0000_0000) as u32, b' ');
-    word((n % 0x1_0000_0000) as u32, b' ');
+fn long(rt: &impl Print, n: u64) -> io::Result<()> {
+    word(rt, (n / 0x1_0000_0000) as u32, b' ')?;
+    word(rt, (n % 0x1_0000_0000) as u32, b' ')
 }
 
 fn number(a: WalkAnswer) -> u32 {
@@ -39,25 +39,26 @@ fn number(a: WalkAnswer) -> u32 {
 }
 
 // The first n words of the map.
-fn map_words(map: &[u32], n: usize) {
+fn map_words(rt: &impl Print, map: &[u32], n: usize) -> io::Result<()> {
     let mut i = 0;
     while i < map.len() {
         if n <= i {
-            return;
+            return Ok(());
         }
-        word(map[i], b' ');
+        word(rt, map[i], b' ')?;
         i += 1;
     }
+    Ok(())
 }
 
 // Answer, counts, the map's first n words, and how many states wait: a walk that is measured leaves none.
-pub(crate) fn answer(r: Walked, map: &[u32], n: usize) {
+pub(crate) fn answer(rt: &impl Print, r: Walked, map: &[u32], n: usize) -> io::Result<()> {
     let a = r.answer;
-    word(number(a), b' ');
-    long(r.stepped);
-    long(r.begun);
-    long(r.read);
-    long(r.not_read);
-    map_words(map, n);
-    word((r.held % 0x1_0000_0000) as u32, b'\n');
+    word(rt, number(a), b' ')?;
+    long(rt, r.stepped)?;
+    long(rt, r.begun)?;
+    long(rt, r.read)?;
+    long(rt, r.not_read)?;
+    map_words(rt, map, n)?;
+    word(rt, (r.held % 0x1_0000_0000) as u32, b'\n')
 }

@@ -4,7 +4,8 @@
 
 ghost use Rattle.std.specs.Prelude.{◌<◌, ◌≡◌, length};
 
-use libc::{STDIN_FILENO, STDOUT_FILENO};
+use std::io;
+use streams::read_full;
 
 // The kinds of records, and the bytes of one.
 const KINDS: usize = 23;
@@ -90,25 +91,23 @@ fn tally_of(s: &[u8], what: usize) -> Tally {
     Tally { asked, alike }
 }
 
-fn print_line(what: usize, t: Tally) {
-    io::print_decimal(STDOUT_FILENO, what as u64);
-    io::write_all(STDOUT_FILENO, b" asked ");
-    io::print_decimal(STDOUT_FILENO, t.asked as u64);
-    io::write_all(STDOUT_FILENO, b" alike ");
-    io::print_decimal(STDOUT_FILENO, t.alike as u64);
-    io::write_all(STDOUT_FILENO, b"\n");
+fn print_line(rt: &impl Print, what: usize, t: Tally) -> io::Result<()> {
+    let asked = t.asked;
+    let alike = t.alike;
+    println!(rt; "{what} asked {asked} alike {alike}")
 }
 
-fn print_all(records: &[u8]) {
+fn print_all(rt: &impl Print, records: &[u8]) -> io::Result<()> {
     let mut what = 0;
     while what < KINDS {
-        print_line(what, tally_of(records, what));
+        print_line(rt, what, tally_of(records, what))?;
         what += 1;
     }
+    Ok(())
 }
 
-fn main() {
+fn main(rt: HostRuntime) -> io::Result<()> {
     let mut buffer = room();
-    let n = io::read_full(STDIN_FILENO, &mut buffer);
-    print_all(&buffer[..n]);
+    let n = read_full(&mut rt.stdin(), &mut buffer)?;
+    print_all(&rt, &buffer[..n])
 }

@@ -1,0 +1,17 @@
+use Rattle.std.proofs.Common.{◌≡◌, ℕ, ◌+◌, ◌-◌, ◌≢◌, List, true, subst, arith}
+use Rattle.stack.proofs.Stacks.{push_stack, pop_stack}
+use Rattle.stack.specs.Stack.{Stack}
+use Rattle.stack_bench.proofs.churn_states.Goals as goal
+
+-- popping leaves a stack
+popped : (ws : List ℕ) (m : ℕ) → m ≢ 0 → Stack ws m → Stack ws (m - 1)
+popped ws m some st = pop_stack ws (m - 1) (subst (λ (k : ℕ). Stack ws k) (let e : m ≡ m - 1 + 1 = omega (arith, some) in e) st)
+
+pub push_state-r-requires : goal.push_state-r-requires
+push_state-r-requires c = popped c.loop-i.words c.loop-i.m c.if-m-eq0.false c.loop-i.invariant
+
+pub loop-i-preserved : goal.loop-i-preserved
+loop-i-preserved c =
+    let q = c.loop-i in
+    let r = c.push_state-r in
+    push_stack q.words (q.m - 1) c.top_place-p.result c.top_state-s.result (popped q.words q.m c.if-m-eq0.false q.invariant) true r.result r.new.words r.ensures

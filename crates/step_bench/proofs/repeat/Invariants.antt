@@ -1,0 +1,8 @@
+use Rattle.std.proofs.Common.{◌<◌, ◌≡◌, length, ℕ, ◌+◌, ◌-◌, ◌*◌, ◌≤◌}
+use Rattle.step_bench.proofs.repeat.Given as goal
+
+abbrev pub invariant-loop-k : goal.invariant-loop-k
+invariant-loop-k l = l.k ≤ l.turns
+
+abbrev pub decreases-loop-k : goal.decreases-loop-k
+decreases-loop-k l = l.turns - l.k

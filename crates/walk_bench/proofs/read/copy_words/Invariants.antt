@@ -1,0 +1,8 @@
+use Rattle.std.proofs.Common.{◌<◌, ◌≡◌, length, ℕ, ◌+◌, ◌-◌, ◌*◌, ◌≤◌}
+use Rattle.walk_bench.proofs.read.copy_words.Given as goal
+
+abbrev pub invariant-loop-k : goal.invariant-loop-k
+invariant-loop-k l = l.k ≤ length l.to
+
+abbrev pub decreases-loop-k : goal.decreases-loop-k
+decreases-loop-k l = length l.to - l.k
