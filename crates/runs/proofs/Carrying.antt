@@ -4,7 +4,6 @@ use mathlib.Core.Path.{◌≡◌, refl, sym, ap, subst}
 use mathlib.Core.Bool.{Bool, true, false}
 use mathlib.Core.List.{List}
 use Prim.Native.Nat.{ℕ}
-use lib.ListN.{set}
 use lib.Seq.{set-get_or}
 use Rattle.words.specs.Choice.{pick}
 use Rattle.words.specs.Word.{flag}

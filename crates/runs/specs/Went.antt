@@ -11,7 +11,6 @@ use Rattle.vm.specs.Registers.{marked, reg, with_compare}
 use Rattle.step.specs.declared.Effect.{Effect}
 use Rattle.step.specs.declared.Effect.TheVariants.{Nothing, SetD, SetA, Compare, ToLr, ToCtr, FromLr, FromCtr, Load, Store, Clear, Leaves}
 use Rattle.step.specs.declared.Leave.{Leave}
-use Rattle.step.specs.declared.Stopped.{Stopped}
 use Rattle.step.specs.Arms.{ra_of, crfd_of}
 use Rattle.step.specs.Step.{done_of, effect_in}
 use Rattle.step.specs.Runs.{leave_by, run_of}

@@ -11,7 +11,6 @@ use lib.Dec.{eqb, leb, ltb}
 use lib.ListN.{length, get_or}
 use borrow.Author.Tests.{ltb-true, leb-true, eqb-false, lt-ltb, le-leb, eq-eqb, ne_eqb, not-true}
 use Rattle.search.proofs.EveryLaws.{and_left, and_right, every_at}
-use Rattle.search.specs.Every.{every}
 use Rattle.slot.proofs.PutLaws.{every_holds}
 use Rattle.slot.specs.Layout.{is_slot}
 use Rattle.stack.specs.Stack.{room, slot_at, order_at, key_at, high_of, sorted_of, Stack}

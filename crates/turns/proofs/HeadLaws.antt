@@ -21,7 +21,7 @@ use Rattle.jump_tables.specs.Tables.{Outcome}
 use Rattle.turns.specs.declared.WalkAnswer.TheVariants as answer
 use Rattle.turns.specs.Grounds.{Way, jump, leave, idle, busy, Event, begun, stepped, Pile, pile_of, conf}
 use Rattle.turns.specs.Turns.{push_each, take_ways, turn_of, Reach, here}
-use Rattle.turns.specs.Histories.{tables, Tally}
+use Rattle.turns.specs.Histories.{Tally}
 use Rattle.turns.specs.Runs.{Going}
 use Rattle.turns.specs.Moves.{Asked, Lent, is_fine, is_read, move_at}
 use Rattle.turns.specs.Walks.{Given, ground_in, start_in, judged, walk_over, left_by, walked}

@@ -33,7 +33,7 @@ use Rattle.jump_tables.specs.declared.TableAnswer.TheVariants as answer
 use Rattle.jump_tables.specs.declared.Reading.{Reading}
 use Rattle.jump_tables.specs.declared.How.TheVariants.{Sized}
 use Rattle.jump_tables.specs.Tables.{Outcome, refused, filled, fitted, on_verdict, verdict, entries_of, read_off, sized_table, guessed_table, is_table, size_of, table_in, clamped_size, words_passed}
-use Rattle.turns.specs.Grounds.{Way, to, table, Move, jump, leave, on_move}
+use Rattle.turns.specs.Grounds.{Way, to, Move, jump, leave, on_move}
 use Rattle.turns.specs.Moves.{table_room, most_pushed, Asked, is_fine, word_of, asked_of, way_to, ways_of, jump_to, jump_by, move_by, move_at, look_to, look_at, listed_in, ground_of}
 use Rattle.turns.proofs.Lawful.{widths, Lawful}
 

@@ -8,7 +8,6 @@ use lib.ListN.{length}
 use Rattle.words.specs.Choice.{pick}
 use Rattle.turns.specs.Grounds.{Way, to, table, Ground, Pile}
 use Rattle.turns.specs.Turns.{push_at, push_each, asked_for, take_way, take_ways}
-use Rattle.turns.specs.Histories.{listed}
 use Rattle.turns.proofs.Lists.{Some, some_first, some_last, sort_some}
 use Rattle.turns.proofs.Lawful.{Lawful}
 use Rattle.turns.proofs.Pushes.{grown, refused, by_push, each_keeps, ways_keep}

@@ -1,7 +1,6 @@
 -- Eight words make a compare record.
 use Rattle.cells.proofs.CellLaws.{compare_read}
 use mathlib.Core.Path.{◌∙◌}
-use borrow.Author.Rules.{rules}
 use Rattle.cells.proofs.compare_in.Goals as goal
 
 pub returns : goal.returns

@@ -1,6 +1,5 @@
 -- Four words make a value.
 use Rattle.slot.specs.Layout.{state_at}
-use borrow.Author.Rules.{rules}
 use Rattle.cells.proofs.ctr_in.Goals as goal
 
 pub returns : goal.returns

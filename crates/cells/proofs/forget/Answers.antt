@@ -2,7 +2,6 @@
 use Rattle.cells.proofs.CellLaws.{cells_long, set_register}
 use Rattle.vm.specs.Registers.{blank}
 use native.Mathlib.Omega.{arith}
-use borrow.Author.Rules.{rules}
 use Rattle.cells.proofs.forget.Goals as goal
 
 pub put_zeros-requires : goal.put_zeros-requires

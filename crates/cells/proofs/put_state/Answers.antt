@@ -3,8 +3,6 @@ use mathlib.Core.Path.{◌∙◌, sym}
 use Rattle.slot.specs.Layout.{state_words}
 use Rattle.slot.proofs.PutLaws.{put_whole}
 use Rattle.slot.proofs.SlotLaws.{state_length}
-use native.Mathlib.Omega.{arith}
-use borrow.Author.Rules.{rules}
 use Rattle.cells.proofs.put_state.Goals as goal
 
 pub returns : goal.returns

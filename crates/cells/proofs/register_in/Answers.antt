@@ -1,7 +1,6 @@
 -- Eight words make a register.
 use Rattle.cells.proofs.CellLaws.{register_read}
 use mathlib.Core.Path.{◌∙◌}
-use borrow.Author.Rules.{rules}
 use Rattle.cells.proofs.register_in.Goals as goal
 
 pub returns : goal.returns

@@ -1,7 +1,6 @@
 -- One record is written.
 use Rattle.cells.proofs.CellLaws.{cells_long, set_compare}
 use native.Mathlib.Omega.{arith}
-use borrow.Author.Rules.{rules}
 use Rattle.cells.proofs.set_compare.Goals as goal
 
 pub put_compare-requires : goal.put_compare-requires

@@ -1,7 +1,6 @@
 -- One value is written.
 use Rattle.cells.proofs.CellLaws.{cells_long, set_ctr}
 use native.Mathlib.Omega.{arith}
-use borrow.Author.Rules.{rules}
 use Rattle.cells.proofs.set_ctr.Goals as goal
 
 pub put_value-requires : goal.put_value-requires

@@ -1,7 +1,6 @@
 -- One record is written.
 use Rattle.cells.proofs.CellLaws.{cells_long, set_register}
 use native.Mathlib.Omega.{arith}
-use borrow.Author.Rules.{rules}
 use Rattle.cells.proofs.set_register.Goals as goal
 
 pub put_register-requires : goal.put_register-requires

@@ -1,12 +1,9 @@
 -- The loop's invariant: the words passed are zeros. The measure is the words that are left.
-use mathlib.Core.Path.{◌≡◌, refl, ap, ◌∙◌}
+use mathlib.Core.Path.{ap, ◌∙◌}
 use mathlib.Core.List.{List}
-use Prim.Native.Nat.{ℕ, ◌+◌, ◌-◌, ◌≤◌}
+use Prim.Native.Nat.{ℕ, ◌+◌}
 use native.Mathlib.Omega.{arith}
-use lib.ListN.{length, set, replicate, length-set}
-use borrow.Author.Rules.{rules}
-use Rattle.slot.proofs.PutLaws.{put_nil}
-use Rattle.slot.specs.Put.{put}
+use lib.ListN.{set, length-set}
 use Rattle.clones.proofs.OverLaws.{put_cleared}
 use Rattle.clones.proofs.clear.Goals as goal
 

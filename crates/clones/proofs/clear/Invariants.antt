@@ -1,13 +1,8 @@
 -- The loop's invariant: the words passed are zeros. The measure is the words that are left.
-use mathlib.Core.Path.{◌≡◌, refl, ap, ◌∙◌}
-use mathlib.Core.List.{List}
-use Prim.Native.Nat.{ℕ, ◌+◌, ◌-◌, ◌≤◌}
-use native.Mathlib.Omega.{arith}
-use lib.ListN.{length, set, replicate, length-set}
-use borrow.Author.Rules.{rules}
-use Rattle.slot.proofs.PutLaws.{put_nil}
+use mathlib.Core.Path.{◌≡◌}
+use Prim.Native.Nat.{◌-◌, ◌≤◌}
+use lib.ListN.{length, replicate}
 use Rattle.slot.specs.Put.{put}
-use Rattle.clones.proofs.OverLaws.{put_cleared}
 use Rattle.clones.proofs.clear.Given as goal
 
 abbrev pub invariant-loop-i : goal.invariant-loop-i

@@ -1,12 +1,9 @@
 -- The loop's invariant: the words passed are copied. The measure is the words that are left.
-use mathlib.Core.Path.{◌≡◌, refl, ap, ◌∙◌}
+use mathlib.Core.Path.{ap, ◌∙◌}
 use mathlib.Core.List.{List}
-use Prim.Native.Nat.{ℕ, ◌+◌, ◌-◌, ◌≤◌}
+use Prim.Native.Nat.{ℕ, ◌+◌}
 use native.Mathlib.Omega.{arith}
-use lib.ListN.{length, get_or, set, take, drop, length-set}
-use borrow.Author.Rules.{rules}
-use Rattle.slot.proofs.PutLaws.{put_nil}
-use Rattle.slot.specs.Put.{put}
+use lib.ListN.{get_or, set, length-set}
 use Rattle.clones.proofs.OverLaws.{put_copied}
 use Rattle.clones.proofs.copy.Goals as goal
 

@@ -4,7 +4,6 @@ use mathlib.Core.Path.{ap, ◌∙◌}
 use Prim.Native.Nat.{ℕ, ◌+◌}
 use native.Mathlib.Omega.{arith}
 use lib.ListN.{take, drop}
-use borrow.Author.Rules.{rules}
 use Rattle.cells.proofs.CellLaws.{register_fits, cells_long}
 use Rattle.cells.specs.Cells.{state_of}
 use Rattle.slot.specs.Fits.{Fits}

@@ -1,7 +1,6 @@
 -- Each arm is one call.
 use mathlib.Core.Path.{ap, ◌∙◌}
 use native.Mathlib.Omega.{arith}
-use borrow.Author.Rules.{rules}
 use Rattle.cells.proofs.CellLaws.{cells_long}
 use Rattle.slot.specs.Put.{put}
 use Rattle.clones.proofs.CloneLaws.{cells_whole}

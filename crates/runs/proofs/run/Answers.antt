@@ -1,14 +1,10 @@
 -- The invariant: from here the run comes to its end, and the cells hold its state.
 use Rattle.step.specs.declared.Stopped.{Stopped}
 use mathlib.Core.Path.{sym, ap, ◌∙◌, subst}
-use Prim.Native.Nat.{◌-◌, ◌/◌}
-use lib.ListN.{length}
-use Rattle.step.specs.Runs.{run_of}
-use Rattle.cells.specs.Cells.{state_of, Cells}
-use Rattle.cells.proofs.CellLaws.{cells_state, cells_long}
+use Rattle.cells.specs.Cells.{Cells}
+use Rattle.cells.proofs.CellLaws.{cells_state}
 use Rattle.runs.proofs.Carrying.{cells_own}
-use Rattle.runs.proofs.Running.{Running, run_starts, step_on, step_off, run_ends}
-use borrow.Author.Rules.{rules}
+use Rattle.runs.proofs.Running.{step_on, step_off, run_ends}
 use Rattle.runs.proofs.run.Goals as goal
 
 pub loop-i-preserved : goal.loop-i-preserved

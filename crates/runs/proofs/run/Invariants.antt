@@ -1,14 +1,9 @@
 -- The invariant: from here the run comes to its end, and the cells hold its state.
-use Rattle.step.specs.declared.Stopped.{Stopped}
-use mathlib.Core.Path.{sym, ap, ◌∙◌, subst}
 use Prim.Native.Nat.{◌-◌, ◌/◌}
 use lib.ListN.{length}
 use Rattle.step.specs.Runs.{run_of}
 use Rattle.cells.specs.Cells.{state_of, Cells}
-use Rattle.cells.proofs.CellLaws.{cells_state, cells_long}
-use Rattle.runs.proofs.Carrying.{cells_own}
-use Rattle.runs.proofs.Running.{Running, run_starts, step_on, step_off, run_ends}
-use borrow.Author.Rules.{rules}
+use Rattle.runs.proofs.Running.{Running}
 use Rattle.runs.proofs.run.Given as goal
 
 abbrev pub invariant-loop-i : goal.invariant-loop-i

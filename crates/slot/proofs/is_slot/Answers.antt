@@ -1,7 +1,6 @@
 -- The place and the state that stand there are written to a list of their own, which is compared.
 use mathlib.Core.Path.{sym, ap, ◌∙◌}
 use lib.ListN.{replicate}
-use borrow.Author.Rules.{rules}
 use Rattle.places.specs.declared.SectionAddress.{SectionAddress}
 use Rattle.vm.specs.declared.VM.{VM}
 use Rattle.slot.specs.Layout.{slot_size, slot_words, place_in}

@@ -2,16 +2,14 @@
 -- The measures are the records that are left.
 use mathlib.Core.List.{List}
 use mathlib.Core.Path.{◌≡◌, refl, ap, ◌∙◌}
-use Prim.Native.Nat.{ℕ, ◌+◌, ◌-◌, ◌*◌, ◌≤◌, ◌<◌}
+use Prim.Native.Nat.{ℕ, ◌+◌, ◌*◌}
 use native.Mathlib.Omega.{arith}
 use lib.ListN.{length, get_or}
 use borrow.Author.Count.{below_more}
 use borrow.Author.Rules.{rules}
 use Rattle.vm.specs.Registers.{blank, no_cr}
-use Rattle.slot.specs.Fits.{FitsCr}
 use Rattle.slot.specs.Layout.{register_words, compare_words, ends_words, state_words}
 use Rattle.slot.specs.Put.{put, many}
-use Rattle.slot.specs.Values.{mark_of}
 use Rattle.slot.proofs.PutLaws.{put_nil, put_put3, many_length, many_more}
 use Rattle.slot.proofs.SlotLaws.{register_wide, compare_wide}
 use Rattle.slot.proofs.put_state.Goals as goal

@@ -1,14 +1,11 @@
 -- The loop's invariant: the words passed are the same. The measure is the words that are left.
-use mathlib.Core.Bool.{true}
-use mathlib.Core.Path.{◌≡◌, sym}
-use Prim.Native.Nat.{ℕ, ◌+◌, ◌-◌, ◌≤◌}
+use mathlib.Core.Path.{sym}
+use Prim.Native.Nat.{ℕ, ◌+◌}
 use native.Mathlib.Omega.{arith}
 use lib.Dec.{eqb}
 use lib.ListN.{length, get_or}
-use borrow.Author.Rules.{rules}
 use borrow.Author.Tests.{eq-eqb, ne_eqb}
 use Rattle.search.proofs.EveryLaws.{every_none, every_more, every_fails}
-use Rattle.search.specs.Every.{every}
 use Rattle.slot.proofs.same.Goals as goal
 
 pub loop-i-init : goal.loop-i-init

@@ -1,11 +1,10 @@
 -- The loops' invariants: the first records of the local state are those that stand in the words, those after them say nothing.
 -- The measures are the records that are left.
-use mathlib.Core.Path.{◌≡◌, refl, sym, ◌∙◌}
-use Prim.Native.Nat.{ℕ, ◌+◌, ◌-◌, ◌*◌, ◌≤◌}
+use mathlib.Core.Path.{refl, sym, ◌∙◌}
+use Prim.Native.Nat.{ℕ, ◌+◌, ◌*◌}
 use native.Mathlib.Omega.{arith}
-use lib.ListN.{length, take, get_or, set, length-set}
+use lib.ListN.{length-set}
 use lib.Seq.{get_or-set_other}
-use borrow.Author.Rules.{rules}
 use Rattle.vm.specs.Registers.{blank, no_cr}
 use Rattle.vm.specs.declared.Cr.{Cr}
 use Rattle.vm.specs.declared.Gpr.{Gpr}

@@ -1,19 +1,11 @@
 -- The loops' invariants: the first records of the local state are those that stand in the words, those after them say nothing.
 -- The measures are the records that are left.
-use mathlib.Core.Path.{◌≡◌, refl, sym, ◌∙◌}
+use mathlib.Core.Path.{◌≡◌}
 use Prim.Native.Nat.{ℕ, ◌+◌, ◌-◌, ◌*◌, ◌≤◌}
-use native.Mathlib.Omega.{arith}
-use lib.ListN.{length, take, get_or, set, length-set}
-use lib.Seq.{get_or-set_other}
-use borrow.Author.Rules.{rules}
+use lib.ListN.{length, take, get_or}
 use Rattle.vm.specs.Registers.{blank, no_cr}
-use Rattle.vm.specs.declared.Cr.{Cr}
-use Rattle.vm.specs.declared.Gpr.{Gpr}
 use Rattle.slot.specs.Layout.{register_at, compare_at}
 use Rattle.slot.specs.Put.{listed}
-use Rattle.slot.proofs.PutLaws.{listed_more, listed_whole}
-use Rattle.slot.proofs.SlotLaws.{state_read}
-use Rattle.slot.proofs.BlankLaws.{none_known, listed_kept, blank_read, unset_read}
 use Rattle.slot.proofs.state_at.Given as goal
 
 abbrev pub invariant-loop-i : goal.invariant-loop-i

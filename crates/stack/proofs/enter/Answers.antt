@@ -1,11 +1,10 @@
 -- The slot is written, then three words of the table.
 use native.Mathlib.Omega.{arith}
-use lib.ListN.{length-set, length}
-use borrow.Author.Rules.{rules}
+use lib.ListN.{length}
 use Rattle.cells.specs.Cells.{state_of}
 use Rattle.clones.specs.Clones.{made_of}
-use Rattle.stack.proofs.AppendLaws.{next_low, slot_fits, append_entered}
-use Rattle.stack.proofs.RoomLaws.{room_small, room_fits}
+use Rattle.stack.proofs.AppendLaws.{slot_fits, append_entered}
+use Rattle.stack.proofs.RoomLaws.{room_fits}
 use Rattle.stack.proofs.enter.Goals as goal
 
 pub sorted_of-sorted-requires : goal.sorted_of-sorted-requires

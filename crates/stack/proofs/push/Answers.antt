@@ -1,18 +1,13 @@
 -- Refused, or written, entered and perhaps sorted: between the steps the words are a stack.
-use mathlib.Core.Bool.{Bool}
 use mathlib.Core.List.{List}
-use mathlib.Core.Path.{◌≡◌, refl, sym, ap, ◌∙◌, subst}
-use Prim.Native.Nat.{ℕ, ◌+◌, ◌≤◌, ◌<◌}
+use mathlib.Core.Path.{sym, subst}
+use Prim.Native.Nat.{ℕ, ◌+◌, ◌<◌}
 use native.Mathlib.Omega.{arith}
 use lib.ListN.{length}
-use borrow.Author.Rules.{rules}
-use borrow.Author.Tests.{lt-ltb, le-ltb}
 use Rattle.cells.specs.Cells.{state_of}
 use Rattle.clones.specs.Clones.{made_of}
-use Rattle.stack.specs.Push.{appended, sorted_words, pushed_words}
 use Rattle.stack.specs.Stack.{Stack, room}
 use Rattle.stack.proofs.AppendLaws.{append_stack}
-use Rattle.stack.proofs.RoomLaws.{room_small}
 use Rattle.stack.proofs.push.Goals as goal
 
 pub sort-requires : goal.sort-requires

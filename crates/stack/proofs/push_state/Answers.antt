@@ -1,6 +1,5 @@
 -- The cells that are laid out hold the state.
 use mathlib.Core.Path.{sym, subst}
-use borrow.Author.Rules.{rules}
 use Rattle.cells.proofs.CellLaws.{cells_state}
 use Rattle.cells.specs.Cells.{Cells}
 use Rattle.vm.specs.declared.VM.{VM}

@@ -4,14 +4,13 @@ use mathlib.Core.Path.{◌≡◌, sym, ap, ◌∙◌}
 use Prim.Native.Nat.{ℕ, ◌+◌, ◌-◌}
 use native.Mathlib.Omega.{arith}
 use lib.ListN.{length, get_or, take, drop}
-use borrow.Author.Rules.{rules}
 use Rattle.cells.proofs.CellLaws.{cells_long}
 use Rattle.slot.proofs.PutLaws.{put_whole}
 use Rattle.slot.specs.Layout.{state_size}
 use Rattle.slot.specs.Put.{put}
 use Rattle.stack.specs.Stack.{slot_at, order_at}
 use Rattle.stack.proofs.RoomLaws.{room_fits}
-use Rattle.stack.proofs.TopLaws.{held_low, slot_low, slot_inside, held_cells}
+use Rattle.stack.proofs.TopLaws.{held_low, slot_inside, held_cells}
 use Rattle.stack.proofs.top_cells.Goals as goal
 
 pub bounds-words-count : goal.bounds-words-count

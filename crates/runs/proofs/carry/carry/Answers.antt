@@ -6,7 +6,6 @@ use Rattle.step.specs.Runs.{leave_by}
 use Rattle.step.specs.Step.{done_of}
 use Rattle.runs.specs.Went.{went_of}
 use native.Mathlib.Omega.{arith}
-use borrow.Author.Rules.{rules}
 use Rattle.runs.proofs.carry.carry.Goals as goal
 
 pub set_compare-requires : goal.set_compare-requires

@@ -5,7 +5,6 @@ use Rattle.runs.proofs.Carrying.{cells_as, cells_own}
 use mathlib.Core.Path.{sym}
 use Rattle.cells.specs.Cells.{state_of}
 use native.Mathlib.Omega.{arith}
-use borrow.Author.Rules.{rules}
 use Rattle.runs.proofs.carry.clear.Goals as goal
 
 pub forget-requires-in-RdRa-2 : goal.forget-requires-in-RdRa-2

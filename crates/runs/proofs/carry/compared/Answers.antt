@@ -3,7 +3,6 @@ use Rattle.cells.proofs.CellLaws.{cells_state, cells_long}
 use Rattle.runs.proofs.Carrying.{cells_as, cells_own}
 use native.Mathlib.Omega.{arith}
 use Rattle.runs.specs.Went.{compared_of}
-use borrow.Author.Rules.{rules}
 use Rattle.runs.proofs.carry.compared.Goals as goal
 
 pub returns-then-l : goal.returns-then-l

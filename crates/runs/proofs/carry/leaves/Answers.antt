@@ -1,8 +1,6 @@
 -- CTR and the field that BI names are read from the cells.
 use Rattle.cells.proofs.CellLaws.{cells_long}
-use mathlib.Core.Path.{◌∙◌}
 use native.Mathlib.Omega.{arith}
-use borrow.Author.Rules.{rules}
 use Rattle.runs.proofs.carry.leaves.Goals as goal
 
 pub ctr_in-requires : goal.ctr_in-requires

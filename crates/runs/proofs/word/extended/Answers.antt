@@ -12,7 +12,6 @@ use Rattle.decoder.specs.declared.Decoded.{Decoded}
 use Rattle.decoder.specs.declared.Op.TheVariants.{Or, Add, Cmp, Cmpl, Lwzx, Subf, Other}
 use Rattle.runs.proofs.Told.{effect_by_lem}
 use native.Mathlib.Omega.{arith}
-use borrow.Author.Rules.{rules}
 use Rattle.runs.proofs.word.extended.Goals as goal
 
 pub register_in-requires : goal.register_in-requires

@@ -15,7 +15,6 @@ use Rattle.decoder.specs.Table.{rows, first}
 use Rattle.decoder.specs.declared.Op.TheVariants.{Cmpli, Cmpi, Addi, Addis, Bc, B, Rlwinm, Ori, Lwz, Lbz, Stw, Stb, Lhz, Sth}
 use Rattle.runs.proofs.Told.{by_primary, effect_by_lem}
 use native.Mathlib.Omega.{arith}
-use borrow.Author.Rules.{rules}
 use Rattle.runs.proofs.word.one.Goals as goal
 
 pub register_in-requires : goal.register_in-requires

@@ -1,9 +1,6 @@
 -- The arm finds the effect, which is carried out.
-use mathlib.Core.Path.{sym, ◌∙◌}
 use Rattle.cells.proofs.CellLaws.{cells_long}
-use Rattle.runs.proofs.Carrying.{went_by}
 use native.Mathlib.Omega.{arith}
-use borrow.Author.Rules.{rules}
 use Rattle.runs.proofs.word.rest.Goals as goal
 
 pub register_in-gs-requires : goal.register_in-gs-requires

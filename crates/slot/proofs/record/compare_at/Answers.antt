@@ -1,8 +1,4 @@
 -- Two words of 0 are no compare; else the parts are read one by one, the right value four words on.
-use mathlib.Core.Path.{◌≡◌}
-use Prim.Native.Nat.{◌+◌}
-use native.Mathlib.Omega.{arith}
-use borrow.Author.Rules.{rules}
 use Rattle.slot.specs.Values.{value_of}
 use Rattle.slot.proofs.record.compare_at.Goals as goal
 

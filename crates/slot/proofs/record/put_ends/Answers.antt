@@ -1,7 +1,6 @@
 -- Two puts of four words, one behind the other.
 use Prim.Native.Nat.{◌+◌}
 use native.Mathlib.Omega.{arith}
-use borrow.Author.Rules.{rules}
 use Rattle.slot.specs.Layout.{value_words}
 use Rattle.slot.proofs.PutLaws.{put_put}
 use Rattle.slot.proofs.record.put_ends.Goals as goal

@@ -1,7 +1,6 @@
 -- Two puts of four words, one behind the other.
 use Prim.Native.Nat.{◌+◌}
 use native.Mathlib.Omega.{arith}
-use borrow.Author.Rules.{rules}
 use Rattle.slot.specs.Layout.{quad, pair, register_head}
 use Rattle.slot.specs.Values.{numbers_of, address_numbers}
 use Rattle.slot.proofs.PutLaws.{put_put}

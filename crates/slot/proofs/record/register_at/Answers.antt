@@ -1,5 +1,4 @@
 -- A first word of 0 is a blank record; else the parts are read one by one.
-use borrow.Author.Rules.{rules}
 use Rattle.slot.specs.Values.{value_of}
 use Rattle.slot.proofs.record.register_at.Goals as goal
 

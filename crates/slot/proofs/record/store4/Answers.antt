@@ -3,8 +3,6 @@ use mathlib.Core.List.{[], ◌∷◌}
 use mathlib.Core.Path.{◌≡◌}
 use Prim.Native.Nat.{suc, ◌+◌}
 use native.Mathlib.Omega.{arith}
-use lib.ListN.{length-set}
-use borrow.Author.Rules.{rules}
 use Rattle.slot.proofs.PutLaws.{stored}
 use Rattle.slot.proofs.record.store4.Goals as goal
 

@@ -1,5 +1,4 @@
 -- Each tag picks its value; any other number picks Unknown.
-use borrow.Author.Rules.{rules}
 use borrow.Author.Tests.{ne_eqb}
 use Rattle.slot.specs.Values.{value_of}
 use Rattle.slot.proofs.value.value_of.Goals as goal

@@ -1,13 +1,11 @@
 -- The loop's invariant: the numbers passed differ. The measure is the numbers that are left.
-use mathlib.Core.Bool.{true, not}
-use mathlib.Core.Path.{◌≡◌, refl, sym, ap, ◌∙◌}
-use Prim.Native.Nat.{ℕ, ◌-◌, ◌≤◌}
+use mathlib.Core.Bool.{not}
+use mathlib.Core.Path.{◌≡◌, refl, sym, ◌∙◌}
+use Prim.Native.Nat.{ℕ}
 use native.Mathlib.Omega.{arith}
 use lib.Dec.{eqb}
-use borrow.Author.Rules.{rules}
 use borrow.Author.Tests.{eq-eqb, ne_eqb}
 use Rattle.search.proofs.EveryLaws.{every_none, every_more, every_fails}
-use Rattle.search.specs.Every.{every}
 use Rattle.stack.specs.Stack.{order_at}
 use Rattle.stack.proofs.judge.is_fresh.Goals as goal
 

@@ -1,15 +1,10 @@
 -- The loop's invariant: the slots passed are well written. The measure is the slots that are left.
 use mathlib.Core.Bool.{true}
-use mathlib.Core.Path.{◌≡◌, sym, ap, ◌∙◌}
+use mathlib.Core.Path.{◌≡◌}
 use Prim.Native.Nat.{ℕ, ◌-◌, ◌≤◌}
-use native.Mathlib.Omega.{arith}
-use lib.ListN.{length}
-use borrow.Author.Rules.{rules}
-use Rattle.search.proofs.EveryLaws.{every_none, every_more, every_fails}
 use Rattle.search.specs.Every.{every}
 use Rattle.slot.specs.Layout.{is_slot}
 use Rattle.stack.specs.Stack.{slot_at, order_at}
-use Rattle.stack.proofs.RoomLaws.{room_fits}
 use Rattle.stack.proofs.judge.is_held.Given as goal
 
 abbrev pub invariant-loop-i : goal.invariant-loop-i

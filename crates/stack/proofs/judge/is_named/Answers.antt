@@ -1,13 +1,11 @@
 -- The loop's invariant: the numbers passed are low and new. The measure is the numbers that are left.
-use mathlib.Core.Bool.{true, ◌&&◌}
-use mathlib.Core.Path.{◌≡◌, refl, sym, ap, ◌∙◌}
-use Prim.Native.Nat.{ℕ, ◌-◌, ◌≤◌}
+use mathlib.Core.Bool.{◌&&◌}
+use mathlib.Core.Path.{refl, sym, ◌∙◌}
+use Prim.Native.Nat.{ℕ}
 use native.Mathlib.Omega.{arith}
 use lib.Dec.{ltb}
-use borrow.Author.Rules.{rules}
 use borrow.Author.Tests.{lt-ltb, le-ltb}
 use Rattle.search.proofs.EveryLaws.{every_none, every_more, every_fails, and_false_left, and_false_right}
-use Rattle.search.specs.Every.{every}
 use Rattle.stack.specs.Stack.{order_at}
 use Rattle.stack.specs.Valid.{is_fresh}
 use Rattle.stack.proofs.judge.is_named.Goals as goal

@@ -1,12 +1,8 @@
 -- The loop's invariant: the neighbours passed are in order. The measure is the states that are left.
 use mathlib.Core.Bool.{true}
-use mathlib.Core.Path.{◌≡◌, sym, ap, ◌∙◌}
+use mathlib.Core.Path.{◌≡◌}
 use Prim.Native.Nat.{ℕ, ◌+◌, ◌-◌, ◌≤◌}
-use native.Mathlib.Omega.{arith}
 use lib.Dec.{leb}
-use borrow.Author.Rules.{rules}
-use borrow.Author.Tests.{le-leb, lt-leb}
-use Rattle.search.proofs.EveryLaws.{every_none, every_more, every_fails}
 use Rattle.search.specs.Every.{every}
 use Rattle.stack.specs.Stack.{key_at}
 use Rattle.stack.proofs.judge.is_ordered.Given as goal

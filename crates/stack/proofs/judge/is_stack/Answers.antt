@@ -1,17 +1,11 @@
 -- Each way out, by what the test of a stack is: where one part fails the whole does.
-use mathlib.Core.Bool.{true, false}
-use mathlib.Core.Path.{◌≡◌, sym, ap, ◌∙◌}
-use Prim.Native.Nat.{ℕ, ◌<◌}
+use mathlib.Core.Path.{sym, ◌∙◌}
+use Prim.Native.Nat.{◌<◌}
 use native.Mathlib.Decide.{dec_lt}
 use native.Mathlib.Omega.{arith}
 use lib.ListN.{length, get_or}
-use borrow.Author.Rules.{rules}
-use borrow.Author.Tests.{eq-eqb}
-use Rattle.stack.specs.Stack.{sorted_of}
-use Rattle.stack.specs.Valid.{is_named, is_ordered, valid_stack}
-use Rattle.stack.proofs.AppendLaws.{high_word}
 use Rattle.stack.proofs.RoomLaws.{room_fits}
-use Rattle.stack.proofs.ValidLaws.{fails, named_low, valid_slots, stack_named, stack_ordered, valid_stack_lem}
+use Rattle.stack.proofs.ValidLaws.{named_low}
 use Rattle.stack.proofs.judge.is_stack.Goals as goal
 
 pub bounds-words-0 : goal.bounds-words-0
