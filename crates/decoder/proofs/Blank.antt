@@ -1,5 +1,5 @@
 -- Blanking the registers of a set in a loop: `take_lowest` until the set is empty, one register blanked a turn.
--- The invariant is that blanking the rest of the set gives the result: `blank-start` before the loop, `blank_turn` in each turn, `blank_none` after it.
+-- The invariant is that blanking the rest of the set gives the result: `blank_start` before the loop, `blank_turn` in each turn, `blank_none` after it.
 -- Assumes nothing.
 use mathlib.Core.Path.{◌≡◌, refl, sym, ap, ap₂, ◌∙◌, subst}
 use mathlib.Core.Bool.{Bool, true, false}

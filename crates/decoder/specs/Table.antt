@@ -125,7 +125,7 @@ rows =
     row 31 595 Other Rd ∷  -- mfsr
     row 31 659 Other Rd ∷  -- mfsrin
     row 31 310 Other Rd ∷  -- eciwx
-    -- rd_of and ra_of.
+    -- rD and rA.
     row 31 55 Other RdRa ∷  -- lwzux
     row 31 119 Other RdRa ∷  -- lbzux
     row 31 311 Other RdRa ∷  -- lhzux

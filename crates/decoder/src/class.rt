@@ -64,7 +64,7 @@ pub fn is_load_store_op(op: Op) -> bool
     l | lf | s | sf
 }
 
-// Whether it is a load or store that also writes its address to ra_of. The Rust's list names the
+// Whether it is a load or store that also writes its address to rA. The Rust's list names the
 // indexed update forms too: these are Other here, and their rows say what they write.
 pub fn is_update_op(op: Op) -> bool
     ensures { result ≡ is_update op }

@@ -66,7 +66,7 @@ pub enum Op {
     Subfc,
 }
 
-// The kinds of sets of general registers that a word writes: none, or what its fields rd_of and ra_of name.
+// The kinds of sets of general registers that a word writes: none, or what its fields rD and rA name.
 #[derive(Clone, Copy)]
 pub enum Writes {
     Nothing,

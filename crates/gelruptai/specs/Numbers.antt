@@ -1,4 +1,4 @@
--- Answers as numbers. Those of a walk and of reports are `answer_of`, `writeNumber` and `readNumber` of their own crates.
+-- Answers as numbers. Those of a walk and of reports are `answer_of`, `write_number` and `read_number` of their own crates.
 -- Assumes nothing.
 use Rattle.std.specs.Prelude.{ℕ}
 use Rattle.faults.specs.declared.Rule.{Rule}

@@ -32,7 +32,7 @@ went_of (Store g seen) ws at w s = (done_of (Store g seen) ws at w s).vm
 went_of (Clear k) ws at w s = (done_of (Clear k) ws at w s).vm
 went_of (Leaves way) ws at w s = s
 
--- the state after a compare of ra_of, with L set as it was
+-- the state after a compare of rA, with L set as it was
 unfoldable pub compared_of : ℕ → GprValue → Bool → VM → VM
 compared_of w right signed s =
     pick (flag w 10) s

@@ -48,7 +48,7 @@ pub fn clear(w: u32, kind: Writes, cells: &mut [u32])
     }
 }
 
-// A compare of ra_of is recorded, and ra_of marked; with L set, nothing.
+// A compare of rA is recorded, and rA marked; with L set, nothing.
 pub fn compared(w: u32, right: GprValue, signed: bool, cells: &mut [u32])
     requires { Cells cells.old (state_of cells.old) }
     ensures { Cells cells.new (compared_of w right signed (state_of cells.old)) }

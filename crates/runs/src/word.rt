@@ -36,7 +36,7 @@ fn extended(im: &[u32], at: SectionAddress, w: u32, cells: &mut [u32]) -> Leave
     let op = dec.op;
     let writes = dec.writes;
     match op {
-        // or ra_of, rs_of, rb_of
+        // or rA, rS, rB
         Op::Or => {
             let g = records::or(
                 w,
@@ -46,7 +46,7 @@ fn extended(im: &[u32], at: SectionAddress, w: u32, cells: &mut [u32]) -> Leave
             set_register(cells, field::ra(w), g);
             Leave::Ended
         }
-        // add rd_of, ra_of, rb_of
+        // add rD, rA, rB
         Op::Add => {
             let g = register_in(cells, field::ra(w));
             let h = register_in(cells, field::rb(w));
@@ -55,21 +55,21 @@ fn extended(im: &[u32], at: SectionAddress, w: u32, cells: &mut [u32]) -> Leave
             set_register(cells, field::rd(w), set_direct(rule::add(left, right)));
             Leave::Ended
         }
-        // cmp [crfd_of], [L], ra_of, rb_of
+        // cmp [crfD], [L], rA, rB
         Op::Cmp => {
             let g = register_in(cells, field::rb(w));
             let right = g.value;
             compared(w, right, true, cells);
             Leave::Ended
         }
-        // cmpl [crfd_of], [L], ra_of, rb_of
+        // cmpl [crfD], [L], rA, rB
         Op::Cmpl => {
             let g = register_in(cells, field::rb(w));
             let right = g.value;
             compared(w, right, false, cells);
             Leave::Ended
         }
-        // lwzx rd_of, ra_of, rb_of
+        // lwzx rD, rA, rB
         Op::Lwzx => {
             let g = register_in(cells, field::ra(w));
             let h = register_in(cells, field::rb(w));
@@ -79,7 +79,7 @@ fn extended(im: &[u32], at: SectionAddress, w: u32, cells: &mut [u32]) -> Leave
             set_register(cells, field::rd(w), set_direct(rule::lwzx(known, right)));
             Leave::Ended
         }
-        // subf rd_of, ra_of, rb_of
+        // subf rD, rA, rB
         Op::Subf => {
             let g = register_in(cells, field::ra(w));
             let h = register_in(cells, field::rb(w));
@@ -102,17 +102,17 @@ pub fn one(im: &[u32], at: SectionAddress, w: u32, cells: &mut [u32]) -> Leave
     ensures { Went im.now at w (state_of cells.old) result cells.new }
 {
     match field::opcd(w) {
-        // cmpli [crfd_of], [L], ra_of, UIMM
+        // cmpli [crfD], [L], rA, UIMM
         10 => {
             compared(w, GprValue::Constant(field::uimm(w)), false, cells);
             Leave::Ended
         }
-        // cmpi [crfd_of], [L], ra_of, SIMM
+        // cmpi [crfD], [L], rA, SIMM
         11 => {
             compared(w, GprValue::Constant(field::simm(w)), true, cells);
             Leave::Ended
         }
-        // addi rd_of, ra_of, SIMM
+        // addi rD, rA, SIMM
         14 => {
             let a = field::ra(w);
             let known = lookups::target_at(im, at);
@@ -120,7 +120,7 @@ pub fn one(im: &[u32], at: SectionAddress, w: u32, cells: &mut [u32]) -> Leave
             set_register(cells, field::rd(w), g);
             Leave::Ended
         }
-        // addis rd_of, ra_of, SIMM
+        // addis rD, rA, SIMM
         15 => {
             let known = lookups::target_at(im, at);
             let g = register_in(cells, field::ra(w));
@@ -130,7 +130,7 @@ pub fn one(im: &[u32], at: SectionAddress, w: u32, cells: &mut [u32]) -> Leave
         }
         16 => leaves(im, at, w, Way::Bc, cells),
         18 => leaves(im, at, w, Way::B, cells),
-        // rlwinm ra_of, rs_of, SH, MB, ME
+        // rlwinm rA, rS, SH, MB, ME
         21 => {
             let g = register_in(cells, field::rd(w));
             let value = g.value;
@@ -142,7 +142,7 @@ pub fn one(im: &[u32], at: SectionAddress, w: u32, cells: &mut [u32]) -> Leave
             );
             Leave::Ended
         }
-        // ori ra_of, rs_of, UIMM
+        // ori rA, rS, UIMM
         24 => {
             let known = lookups::target_at(im, at);
             let g = records::ori(known, at, w, register_in(cells, field::rd(w)));
@@ -150,26 +150,26 @@ pub fn one(im: &[u32], at: SectionAddress, w: u32, cells: &mut [u32]) -> Leave
             Leave::Ended
         }
         31 => extended(im, at, w, cells),
-        // lwz rd_of, d(ra_of)
+        // lwz rD, d(rA)
         32 => {
             forget(cells, field::rd(w));
             Leave::Ended
         }
-        // lbz rd_of, d(ra_of)
+        // lbz rD, d(rA)
         34 => {
             forget(cells, field::rd(w));
             Leave::Ended
         }
-        // stw rs_of, d(ra_of)
+        // stw rS, d(rA)
         36 => Leave::Ended,
-        // stb rs_of, d(ra_of)
+        // stb rS, d(rA)
         38 => Leave::Ended,
-        // lhz rd_of, d(ra_of)
+        // lhz rD, d(rA)
         40 => {
             forget(cells, field::rd(w));
             Leave::Ended
         }
-        // sth rs_of, d(ra_of)
+        // sth rS, d(rA)
         44 => Leave::Ended,
         _ => rest(im, at, w, decoder::decode(w), cells),
     }

@@ -1,4 +1,4 @@
--- Registers made Unknown one by one: what `blankWhere` is for the kinds of writes.
+-- Registers made Unknown one by one: what `blank_where` is for the kinds of writes.
 -- Assumes nothing.
 use mathlib.Core.Path.{◌≡◌, refl, sym, ap, ap₂, ◌∙◌}
 use mathlib.Core.Bool.{Bool, true, false, ◌||◌}

@@ -1,5 +1,5 @@
 -- The arms of vm.rs in its order: from a word and the records of its operands to what the word does.
--- Assumes nothing. gs, ga, gb are the records of rs_of (the bits of rd_of), ra_of and rb_of.
+-- Assumes nothing. gs, ga, gb are the records of rS (the bits of rD), rA and rB.
 use Rattle.std.specs.Prelude.{ℕ, Bool, true, false, List, eqb}
 use Rattle.words.specs.Choice.{pick}
 use Rattle.words.specs.Word.{field, flag, simm_of, spr_of}
@@ -38,36 +38,36 @@ crfd_of w = field w 6 8
 abbrev pub uimm_of : ℕ → ℕ
 uimm_of w = field w 16 31
 
--- addis rd_of, ra_of, SIMM: the relocation if there is one; lis rd_of, SIMM
+-- addis rD, rA, SIMM: the relocation if there is one; lis rD, SIMM
 unfoldable pub addis_gpr : MaybeTarget → SectionAddress → ℕ → GprValue → Gpr
 addis_gpr (Known t) at w left = high (Address t) at
 addis_gpr Missing at w left = pick (eqb (ra_of w) 0) (high (addis_of (Constant 0) (simm_of w)) at) (direct (addis_of left (simm_of w)))
 
--- addi rd_of, ra_of, SIMM: the relocation if there is one; li rd_of, SIMM where ra_of 0 means zero
+-- addi rD, rA, SIMM: the relocation if there is one; li rD, SIMM where rA 0 means zero
 unfoldable pub addi_gpr : MaybeTarget → Bool → SectionAddress → ℕ → Gpr → Gpr
 addi_gpr (Known t) zero at w ga = low (Address t) at ga
 addi_gpr Missing zero at w ga = pick zero (direct (addi_of (Constant 0) (simm_of w))) (low (addi_of ga.value (simm_of w)) at ga)
 
--- ori ra_of, rs_of, UIMM: the relocation if there is one
+-- ori rA, rS, UIMM: the relocation if there is one
 unfoldable pub ori_gpr : MaybeTarget → SectionAddress → ℕ → Gpr → Gpr
 ori_gpr (Known t) at w gs = low (Address t) at gs
 ori_gpr Missing at w gs = low (ori_of gs.value (uimm_of w)) at gs
 
--- or ra_of, rs_of, rB: a copy of the whole record where rs_of is rb_of
+-- or rA, rS, rB: a copy of the whole record where rS is rB
 unfoldable pub or_gpr : ℕ → Gpr → Gpr → Gpr
 or_gpr w gs gb = pick (eqb (rd_of w) (rb_of w)) gs (direct (or_of gs.value gb.value))
 
--- cmp, cmpi, cmpl, cmpli: the compare is recorded and ra_of marked, its places kept; with L set, nothing
+-- cmp, cmpi, cmpl, cmpli: the compare is recorded and rA marked, its places kept; with L set, nothing
 unfoldable pub compare_of : ℕ → Gpr → GprValue → Bool → Effect
 compare_of w ga right signed =
     pick (flag w 10) Nothing
     (Compare (record { left = ga.value; right = right; signed = signed }) (marked ga (ComparisonResult (crfd_of w))))
 
--- mtspr SPR, rs_of
+-- mtspr SPR, rS
 unfoldable pub to_spr : ℕ → GprValue → Effect
 to_spr w v = pick (eqb (spr_of w) 8) (ToLr v) (pick (eqb (spr_of w) 9) (ToCtr v) Nothing)
 
--- mfspr rd_of, SPR
+-- mfspr rD, SPR
 unfoldable pub from_spr : ℕ → Effect
 from_spr w = pick (eqb (spr_of w) 8) FromLr (pick (eqb (spr_of w) 9) FromCtr (SetD blank))
 
@@ -84,36 +84,36 @@ access_of o ws at w ga =
 
 unfoldable pub effect_by : Op → Writes → List ℕ → SectionAddress → ℕ → Gpr → Gpr → Gpr → Effect
 effect_by op.Illegal ks ws at w gs ga gb = Leaves way.Illegal
--- add rd_of, ra_of, rb_of
+-- add rD, rA, rB
 effect_by op.Add ks ws at w gs ga gb = SetD (direct (add_of ga.value gb.value))
--- addis rd_of, ra_of, SIMM
+-- addis rD, rA, SIMM
 effect_by op.Addis ks ws at w gs ga gb = SetD (addis_gpr (target_at ws at) at w ga.value)
--- addi rd_of, ra_of, SIMM
--- addic rd_of, ra_of, SIMM
--- addic. rd_of, ra_of, SIMM
+-- addi rD, rA, SIMM
+-- addic rD, rA, SIMM
+-- addic. rD, rA, SIMM
 effect_by op.Addi ks ws at w gs ga gb = SetD (addi_gpr (target_at ws at) (eqb (ra_of w) 0) at w ga)
 effect_by op.Addic ks ws at w gs ga gb = SetD (addi_gpr (target_at ws at) false at w ga)
 effect_by op.AddicDot ks ws at w gs ga gb = SetD (addi_gpr (target_at ws at) false at w ga)
--- subf rd_of, ra_of, rb_of
--- subfc rd_of, ra_of, rb_of
+-- subf rD, rA, rB
+-- subfc rD, rA, rB
 effect_by op.Subf ks ws at w gs ga gb = SetD (direct (subf_of ga.value gb.value))
 effect_by op.Subfc ks ws at w gs ga gb = SetD (direct (subf_of ga.value gb.value))
--- subfic rd_of, ra_of, SIMM
+-- subfic rD, rA, SIMM
 effect_by op.Subfic ks ws at w gs ga gb = SetD (direct (subfic_of ga.value (simm_of w)))
--- ori ra_of, rs_of, UIMM
+-- ori rA, rS, UIMM
 effect_by op.Ori ks ws at w gs ga gb = SetA (ori_gpr (target_at ws at) at w gs)
--- or ra_of, rs_of, rb_of
+-- or rA, rS, rB
 effect_by op.Or ks ws at w gs ga gb = SetA (or_gpr w gs gb)
--- cmp [crfD], [L], ra_of, rb_of
--- cmpi [crfD], [L], ra_of, SIMM
--- cmpl [crfD], [L], ra_of, rb_of
--- cmpli [crfD], [L], ra_of, UIMM
+-- cmp [crfD], [L], rA, rB
+-- cmpi [crfD], [L], rA, SIMM
+-- cmpl [crfD], [L], rA, rB
+-- cmpli [crfD], [L], rA, UIMM
 effect_by op.Cmp ks ws at w gs ga gb = compare_of w ga gb.value true
 effect_by op.Cmpi ks ws at w gs ga gb = compare_of w ga (Constant (simm_of w)) true
 effect_by op.Cmpl ks ws at w gs ga gb = compare_of w ga gb.value false
 effect_by op.Cmpli ks ws at w gs ga gb = compare_of w ga (Constant (uimm_of w)) false
--- rlwinm ra_of, rs_of, SH, MB, ME
--- rlwnm ra_of, rs_of, rb_of, MB, ME
+-- rlwinm rA, rS, SH, MB, ME
+-- rlwnm rA, rS, rB, MB, ME
 effect_by op.Rlwinm ks ws at w gs ga gb = SetA (direct (rotate_of gs.value (field w 16 20) (mask_of (field w 21 25) (field w 26 30))))
 effect_by op.Rlwnm ks ws at w gs ga gb = SetA (direct (rlwnm_of gs.value gb.value (mask_of (field w 21 25) (field w 26 30))))
 -- b[l][a] target_addr
@@ -124,11 +124,11 @@ effect_by op.B ks ws at w gs ga gb = Leaves way.B
 effect_by op.Bc ks ws at w gs ga gb = Leaves way.Bc
 effect_by op.Bcctr ks ws at w gs ga gb = Leaves way.Bcctr
 effect_by op.Bclr ks ws at w gs ga gb = Leaves way.Bclr
--- lwzx rd_of, ra_of, rb_of
+-- lwzx rD, rA, rB
 effect_by op.Lwzx ks ws at w gs ga gb = SetD (direct (lwzx_of (address_of (section_address_for ws at) ga.value) gb.value))
--- mtspr SPR, rs_of
+-- mtspr SPR, rS
 effect_by op.Mtspr ks ws at w gs ga gb = to_spr w gs.value
--- mfspr rd_of, SPR
+-- mfspr rD, SPR
 effect_by op.Mfspr ks ws at w gs ga gb = from_spr w
 -- rfi
 effect_by op.Rfi ks ws at w gs ga gb = Leaves way.Rfi

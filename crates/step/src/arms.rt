@@ -11,7 +11,7 @@ use vm::register::set_direct;
 use vm::{Gpr, GprValue, rule};
 use words::{field, mask};
 
-// gs, ga and gb are the records of rs_of (the bits of rd_of), ra_of and rb_of.
+// gs, ga and gb are the records of rS (the bits of rD), rA and rB.
 pub fn effect(
     im: &[u32],
     at: SectionAddress,
@@ -31,43 +31,43 @@ pub fn effect(
     let b = gb.value;
     match op {
         Op::Illegal => Effect::Leaves(Way::Illegal),
-        // add rd_of, ra_of, rb_of
+        // add rD, rA, rB
         Op::Add => Effect::SetD(set_direct(rule::add(a, b))),
-        // addis rd_of, ra_of, SIMM
+        // addis rD, rA, SIMM
         Op::Addis => Effect::SetD(records::addis(lookups::target_at(im, at), at, w, a)),
-        // addi rd_of, ra_of, SIMM
+        // addi rD, rA, SIMM
         Op::Addi => {
             let zero = field::ra(w) == 0;
             Effect::SetD(records::addi(lookups::target_at(im, at), zero, at, w, ga))
         }
-        // addic rd_of, ra_of, SIMM
+        // addic rD, rA, SIMM
         Op::Addic => Effect::SetD(records::addi(lookups::target_at(im, at), false, at, w, ga)),
-        // addic. rd_of, ra_of, SIMM
+        // addic. rD, rA, SIMM
         Op::AddicDot => Effect::SetD(records::addi(lookups::target_at(im, at), false, at, w, ga)),
-        // subf rd_of, ra_of, rb_of
+        // subf rD, rA, rB
         Op::Subf => Effect::SetD(set_direct(rule::subf(a, b))),
-        // subfc rd_of, ra_of, rb_of
+        // subfc rD, rA, rB
         Op::Subfc => Effect::SetD(set_direct(rule::subf(a, b))),
-        // subfic rd_of, ra_of, SIMM
+        // subfic rD, rA, SIMM
         Op::Subfic => Effect::SetD(set_direct(rule::subfic(a, field::simm(w)))),
-        // ori ra_of, rs_of, UIMM
+        // ori rA, rS, UIMM
         Op::Ori => Effect::SetA(records::ori(lookups::target_at(im, at), at, w, gs)),
-        // or ra_of, rs_of, rb_of
+        // or rA, rS, rB
         Op::Or => Effect::SetA(records::or(w, gs, gb)),
-        // cmp [crfd_of], [L], ra_of, rb_of
+        // cmp [crfD], [L], rA, rB
         Op::Cmp => records::compare(w, ga, b, true),
-        // cmpi [crfd_of], [L], ra_of, SIMM
+        // cmpi [crfD], [L], rA, SIMM
         Op::Cmpi => records::compare(w, ga, GprValue::Constant(field::simm(w)), true),
-        // cmpl [crfd_of], [L], ra_of, rb_of
+        // cmpl [crfD], [L], rA, rB
         Op::Cmpl => records::compare(w, ga, b, false),
-        // cmpli [crfd_of], [L], ra_of, UIMM
+        // cmpli [crfD], [L], rA, UIMM
         Op::Cmpli => records::compare(w, ga, GprValue::Constant(field::uimm(w)), false),
-        // rlwinm ra_of, rs_of, SH, MB, ME
+        // rlwinm rA, rS, SH, MB, ME
         Op::Rlwinm => {
             let m = mask::mask_value(field::mb(w), field::me(w));
             Effect::SetA(set_direct(rule::rotate(s, field::sh(w), m)))
         }
-        // rlwnm ra_of, rs_of, rb_of, MB, ME
+        // rlwnm rA, rS, rB, MB, ME
         Op::Rlwnm => {
             let m = mask::mask_value(field::mb(w), field::me(w));
             Effect::SetA(set_direct(rule::rlwnm(s, b, m)))
@@ -76,7 +76,7 @@ pub fn effect(
         Op::Bc => Effect::Leaves(Way::Bc),
         Op::Bcctr => Effect::Leaves(Way::Bcctr),
         Op::Bclr => Effect::Leaves(Way::Bclr),
-        // lwzx rd_of, ra_of, rb_of
+        // lwzx rD, rA, rB
         Op::Lwzx => Effect::SetD(set_direct(rule::lwzx(records::address(im, at, a), b))),
         Op::Mtspr => records::mtspr(w, s),
         Op::Mfspr => records::mfspr(w),

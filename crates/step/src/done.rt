@@ -21,7 +21,7 @@ fn goes_on(s: VM) -> Stepped
     }
 }
 
-// The result of a load or store through ra_of.
+// The result of a load or store through rA.
 pub fn access_result(seen: MaybeTarget, source: Gpr, w: u32) -> StepResult
     ensures { result ≡ access_result seen source w }
 {

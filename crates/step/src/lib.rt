@@ -74,13 +74,13 @@ pub enum Effect {
     Nothing,
     SetD(Gpr),
     SetA(Gpr),
-    // The record of the compare, and ra_of's own.
+    // The record of the compare, and rA's own.
     Compare(Cr, Gpr),
     ToLr(GprValue),
     ToCtr(GprValue),
     FromLr,
     FromCtr,
-    // ra_of's record after it, and what it reached; a Load also makes rd_of Unknown.
+    // rA's record after it, and what it reached; a Load also makes rD Unknown.
     Load { base: Gpr, seen: MaybeTarget },
     Store { base: Gpr, seen: MaybeTarget },
     Clear(Writes),

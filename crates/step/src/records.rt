@@ -13,7 +13,7 @@ use vm::register::{set_direct, set_hi, set_lo, with_value};
 use vm::{Cr, Gpr, GprValue, rule};
 use words::field;
 
-// addis rd_of, ra_of, SIMM
+// addis rD, rA, SIMM
 pub fn addis(known: MaybeTarget, at: SectionAddress, w: u32, left: GprValue) -> Gpr
     ensures { result ≡ addis_gpr known at w left }
 {
@@ -22,7 +22,7 @@ pub fn addis(known: MaybeTarget, at: SectionAddress, w: u32, left: GprValue) -> 
         MaybeTarget::Missing => {
             let simm = field::simm(w);
             if field::ra(w) == 0 {
-                // lis rd_of, SIMM
+                // lis rD, SIMM
                 set_hi(rule::addis(GprValue::Constant(0), simm), at)
             } else {
                 set_direct(rule::addis(left, simm))
@@ -31,7 +31,7 @@ pub fn addis(known: MaybeTarget, at: SectionAddress, w: u32, left: GprValue) -> 
     }
 }
 
-// addi rd_of, ra_of, SIMM, and addic and addic., of which ra_of 0 is register 0
+// addi rD, rA, SIMM, and addic and addic., of which rA 0 is register 0
 pub fn addi(known: MaybeTarget, load_zero: bool, at: SectionAddress, w: u32, ga: Gpr) -> Gpr
     ensures { result ≡ addi_gpr known load_zero at w ga }
 {
@@ -40,7 +40,7 @@ pub fn addi(known: MaybeTarget, load_zero: bool, at: SectionAddress, w: u32, ga:
         MaybeTarget::Missing => {
             let simm = field::simm(w);
             if load_zero {
-                // li rd_of, SIMM
+                // li rD, SIMM
                 set_direct(rule::addi(GprValue::Constant(0), simm))
             } else {
                 let left = ga.value;
@@ -50,7 +50,7 @@ pub fn addi(known: MaybeTarget, load_zero: bool, at: SectionAddress, w: u32, ga:
     }
 }
 
-// ori ra_of, rs_of, UIMM
+// ori rA, rS, UIMM
 pub fn ori(known: MaybeTarget, at: SectionAddress, w: u32, gs: Gpr) -> Gpr
     ensures { result ≡ ori_gpr known at w gs }
 {
@@ -64,7 +64,7 @@ pub fn ori(known: MaybeTarget, at: SectionAddress, w: u32, gs: Gpr) -> Gpr
     }
 }
 
-// or ra_of, rs_of, rb_of
+// or rA, rS, rB
 pub fn or(w: u32, gs: Gpr, gb: Gpr) -> Gpr
     ensures { result ≡ or_gpr w gs gb }
 {
@@ -97,7 +97,7 @@ pub fn compare(w: u32, ga: Gpr, right: GprValue, signed: bool) -> Effect
     }
 }
 
-// mtspr SPR, rs_of
+// mtspr SPR, rS
 pub fn mtspr(w: u32, value: GprValue) -> Effect
     ensures { result ≡ to_spr w value }
 {
@@ -109,7 +109,7 @@ pub fn mtspr(w: u32, value: GprValue) -> Effect
     }
 }
 
-// mfspr rd_of, SPR
+// mfspr rD, SPR
 pub fn mfspr(w: u32) -> Effect
     ensures { result ≡ from_spr w }
 {

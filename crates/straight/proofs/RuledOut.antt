@@ -1,5 +1,5 @@
 -- The empty answers fall to the demand: a step that says Unknown, one that changes nothing, one honest at its first word
--- only. Each by a word li rd_of, SIMM (addi with ra_of 0), which has no source register. Assumes nothing.
+-- only. Each by a word li rD, SIMM (addi with rA 0), which has no source register. Assumes nothing.
 use mathlib.Core.Path.{◌≡◌, sym, subst, ◌∙◌}
 use mathlib.Core.List.{List}
 use Prim.Native.Nat.{ℕ, suc, ◌<◌}
@@ -19,7 +19,7 @@ unknown_is_ruled_out w e s t u a =
     let c = a.constant (subst (λ (r : ℕ). AllConstant s (unless_zero r)) (sym e) tt) in
     unknown_is_not c.0 (sym u ∙ c.1)
 
--- so a step that changes nothing fails where rd_of was Unknown
+-- so a step that changes nothing fails where rD was Unknown
 pub no_change_is_ruled_out : (w : ℕ) → ra_of w ≡ 0 → (s : VM) → (reg s (rd_of w)).value ≡ Unknown → AtWord addi w s s → ⊥
 no_change_is_ruled_out w e s u a = unknown_is_ruled_out w e s s u a
 

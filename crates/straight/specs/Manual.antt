@@ -99,7 +99,7 @@ destination orr w = ra_of w
 destination rlwinm w = ra_of w
 destination rlwnm w = ra_of w
 
--- the registers that it reads: addi and addis with ra_of 0 read none
+-- the registers that it reads: addi and addis with rA 0 read none
 abbrev pub unless_zero : ℕ → List ℕ
 unless_zero a = pick (eqb a 0) [] (a ∷ [])
 

@@ -26,7 +26,7 @@ abbrev pub offset_of : RelocationTarget → ℕ → GprValue
 offset_of (target.Address p) n = Address (target.Address (moved p n))
 offset_of target.External n = Unknown
 
--- add rd_of, ra_of, rb_of
+-- add rD, rA, rB
 abbrev pub add_of : GprValue → GprValue → GprValue
 add_of left right =
     on_place left
@@ -34,34 +34,34 @@ add_of left right =
     (λ t. on_const right (λ b. offset_of t b) Unknown)
     Unknown
 
--- addis rd_of, ra_of, SIMM
+-- addis rD, rA, SIMM
 abbrev pub addis_of : GprValue → ℕ → GprValue
 addis_of left simm = on_const left (λ a. Constant (sum a (simm * 2 ^ 16 % 2 ^ 32))) Unknown
 
--- addi rd_of, ra_of, SIMM
--- addic rd_of, ra_of, SIMM
--- addic. rd_of, ra_of, SIMM
+-- addi rD, rA, SIMM
+-- addic rD, rA, SIMM
+-- addic. rD, rA, SIMM
 abbrev pub addi_of : GprValue → ℕ → GprValue
 addi_of left simm = on_place left (λ a. Constant (sum a simm)) (λ t. offset_of t simm) Unknown
 
--- subf rd_of, ra_of, rb_of
--- subfc rd_of, ra_of, rb_of
+-- subf rD, rA, rB
+-- subfc rD, rA, rB
 abbrev pub subf_of : GprValue → GprValue → GprValue
 subf_of left right = on_const left (λ a. on_const right (λ b. Constant (sum (sum (complement_of a) b) 1)) Unknown) Unknown
 
--- subfic rd_of, ra_of, SIMM
+-- subfic rD, rA, SIMM
 abbrev pub subfic_of : GprValue → ℕ → GprValue
 subfic_of left simm = on_const left (λ a. Constant (sum (sum (complement_of a) simm) 1)) Unknown
 
--- ori ra_of, rs_of, UIMM
+-- ori rA, rS, UIMM
 abbrev pub ori_of : GprValue → ℕ → GprValue
 ori_of left uimm = on_const left (λ a. Constant (bit_or a uimm)) Unknown
 
--- or ra_of, rs_of, rb_of
+-- or rA, rS, rB
 abbrev pub or_of : GprValue → GprValue → GprValue
 or_of left right = on_const left (λ a. on_const right (λ b. Constant (bit_or a b)) Unknown) Unknown
 
--- the rotate rule: rlwinm ra_of, rs_of, SH, MB, ME
+-- the rotate rule: rlwinm rA, rS, SH, MB, ME
 unfoldable pub rotate_of : GprValue → ℕ → ℕ → GprValue
 rotate_of value shift mask =
     on_const value (λ a. Constant (bit_and (rotated a shift) mask))
@@ -69,7 +69,7 @@ rotate_of value shift mask =
     (λ lo hi st. Range (bit_and (rotated lo shift) mask) (bit_and (rotated hi shift) mask) (rotated st shift))
     (Range 0 mask (rotated 1 shift)))
 
--- rlwnm ra_of, rs_of, rb_of, MB, ME
+-- rlwnm rA, rS, rB, MB, ME
 abbrev pub rlwnm_of : GprValue → GprValue → ℕ → GprValue
 rlwnm_of value amount mask = on_const amount (λ shift. rotate_of value shift mask) Unknown
 
@@ -86,7 +86,7 @@ non_zero n = pick (eqb n 0) Guessed (Bytes n)
 abbrev pub max_offset_of : GprValue → TableSize
 max_offset_of index = on_range index (λ lo hi st. pick ((ltb hi 4294967291) && (eqb (hi % 4) 0)) (non_zero hi) Guessed) Guessed
 
--- lwzx rd_of, ra_of, rB: by the place in ra_of and the index in rb_of
+-- lwzx rD, rA, rB: by the place in rA and the index in rB
 abbrev pub lwzx_of : MaybeTarget → GprValue → GprValue
 lwzx_of (Known t) index = LoadIndexed t (max_offset_of index)
 lwzx_of Missing index = Unknown

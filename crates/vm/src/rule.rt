@@ -123,7 +123,7 @@ pub fn rotate(value: GprValue, shift: u32, mask: u32) -> GprValue
     }
 }
 
-// By the number in rb_of, where it is known.
+// By the number in rB, where it is known.
 pub fn rlwnm(value: GprValue, amount: GprValue, mask: u32) -> GprValue
     ensures { result ≡ rlwnm_of value amount mask }
 {

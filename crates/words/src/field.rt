@@ -22,7 +22,7 @@ pub fn rd(w: u32) -> usize
     ((w >> 21) % 32) as usize
 }
 
-// The same bits as rd_of, where the word reads the register.
+// The same bits as rD, where the word reads the register.
 pub fn rs(w: u32) -> usize
     ensures { result ≡ field w 6 10 }
 {

@@ -1,4 +1,4 @@
--- `step::arms::effect` meets its contract. Each arm is the clause of `effectBy` for its operation; the last is every load and store.
+-- `step::arms::effect` meets its contract. Each arm is the clause of `effect_by` for its operation; the last is every load and store.
 use mathlib.Core.Path.{sym, ◌∙◌}
 use Rattle.step.specs.Arms.{effect_by}
 use Rattle.step.proofs.Masks.{masked}
