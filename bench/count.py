@@ -5,13 +5,13 @@ ROOT = os.path.dirname(HERE)
 ORACLE = f'{ROOT}/oracle/target/release/oracle'
 
 def made(command, folder, missing):
-    done = subprocess.run(command, cwd=folder, capture_output=True, text=True)
+    done = subprocess.run(command, cwd=folder, stdin=subprocess.DEVNULL, capture_output=True, text=True)
     if done.returncode: sys.exit(f"{' '.join(command)}: {(done.stdout + done.stderr)[-2000:]}\n{missing}")
 
 def proved(program):
     "a program of ours; where it is"
-    made(['rt', 'check', program], ROOT, f'{program} is not proved')
-    return f'{ROOT}/target/bin/{program}'
+    made(['rt', 'run', program], ROOT, f'{program} is not proved')
+    return f'{ROOT}/crates/{program}/out/{program}'
 
 def build(program):
     "the Rust, for release, and a program of ours; where it is"

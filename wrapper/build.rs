@@ -1,4 +1,4 @@
-// Says where libgelruptai.a is: in target/staticlib of this repository, where `rt staticlib gelruptai` writes it, or in the folder that
+// Says where libgelruptai.a is: in target/staticlib of this repository, where wrapper/test puts it, or in the folder that
 // GELRUPTAI_LIB names.
 use std::env;
 use std::path::PathBuf;
@@ -14,7 +14,7 @@ fn main() {
     let folder = env::var_os("GELRUPTAI_LIB").map_or(here.join("../target/staticlib"), PathBuf::from);
     let library = folder.join("libgelruptai.a");
     if !library.is_file() {
-        panic!("there is no {}: run `rt staticlib gelruptai` first", library.display());
+        panic!("there is no {}: run wrapper/test first", library.display());
     }
     println!("cargo:rerun-if-changed={}", library.display());
     println!("cargo:rustc-link-search=native={}", folder.display());
