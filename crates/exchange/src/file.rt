@@ -1,5 +1,5 @@
 // A file of cases, record after record, and its current image; answers go out a line at a time.
-ghost use Rattle.std.specs.Prelude.{◌≤◌, length, IfOk};
+ghost use Rattle.std.specs.Prelude.{◌≡◌, ◌≤◌, length, IfOk, OnErr};
 
 use crate::{print, read};
 use image::Judged;
@@ -45,7 +45,8 @@ pub fn next_payload<R: Read>(
     payload: &mut [u32],
     count: u32,
 ) -> io::Result<usize>
-    ensures { IfOk result (λ n. n ≤ length payload.new) }
+    ensures count { IfOk result (λ n. n ≤ length payload.new) }
+    ensures kept { OnErr result (payload.new ≡ payload.old) }
 {
     let got = read_raw(input, raw, count)?;
     let n = least(got, payload.len());

@@ -1,11 +1,10 @@
 -- What was judged decides, in document 01's order; then the phase.
 use mathlib.Core.Path.{sym, ap, ◌∙◌}
 use lib.ListN.{length}
-use borrow.Author.Rules.{rules}
 use borrow.Author.Tests.{not-true, not-false}
 use Rattle.visited.specs.Bits.{has_room}
 use Rattle.executor.proofs.Judging.{judged}
-use Rattle.executor.proofs.Answering.{next_broken, next_bad, next_small, next_early, next_run, next_pop}
+use Rattle.executor.proofs.Answering.{next_broken, next_bad, next_small, next_early, next_run}
 use Rattle.executor.proofs.next.Goals as goal
 
 pub code_words-requires : goal.code_words-requires

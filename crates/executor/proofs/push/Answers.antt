@@ -1,11 +1,8 @@
 -- What was judged decides, in document 01's order.
-use mathlib.Core.Path.{refl, sym, ◌∙◌}
+use mathlib.Core.Path.{sym, ◌∙◌}
 use lib.ListN.{length}
-use borrow.Author.Rules.{rules}
-use Rattle.executor.specs.declared.Answer.TheVariants as answer
 use Rattle.executor.specs.declared.Phase.TheVariants as phase
 use Rattle.executor.proofs.Judging.{judged}
-use Rattle.executor.proofs.Answering.{push_done, push_full, push_refused}
 use Rattle.executor.proofs.push.Goals as goal
 
 pub push_state-pushed-requires : goal.push_state-pushed-requires

@@ -1,9 +1,6 @@
 -- What was judged decides, in document 01's order.
-use mathlib.Core.Path.{sym, ap, ◌∙◌}
+use mathlib.Core.Path.{sym, ◌∙◌}
 use lib.ListN.{length}
-use borrow.Author.Rules.{rules}
-use borrow.Author.Tests.{not-true, not-false}
-use Rattle.visited.specs.Bits.{has_room}
 use Rattle.executor.proofs.Judging.{judged}
 use Rattle.executor.proofs.reply.Goals as goal
 

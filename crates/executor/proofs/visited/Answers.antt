@@ -1,13 +1,9 @@
 -- What was judged decides, in document 01's order.
-use mathlib.Core.Path.{sym, ap, ◌∙◌}
+use mathlib.Core.Path.{sym, ◌∙◌}
 use lib.ListN.{length}
-use borrow.Author.Rules.{rules}
-use borrow.Author.Tests.{not-true, not-false}
 use Rattle.image.specs.Rules.{sound}
 use Rattle.image.proofs.SoundTables.{laid, tables_of_sound}
-use Rattle.lookups.proofs.CodeBytes.{fine_place}
-use Rattle.step.proofs.Judging.{when_sound, when_broken}
-use Rattle.visited.specs.Bits.{has_room}
+use Rattle.step.proofs.Judging.{when_sound}
 use Rattle.executor.proofs.visited.Goals as goal
 
 pub code_words-requires : goal.code_words-requires

@@ -1,14 +1,10 @@
 -- The loop's invariant: the states passed wait at words. The measure is the states that are left.
 use mathlib.Core.Bool.{true}
-use mathlib.Core.Path.{◌≡◌, sym, ap, ◌∙◌}
+use mathlib.Core.Path.{◌≡◌}
 use Prim.Native.Nat.{ℕ, ◌-◌, ◌≤◌}
-use native.Mathlib.Omega.{arith}
-use borrow.Author.Rules.{rules}
 use Rattle.search.specs.Every.{every}
-use Rattle.search.proofs.EveryLaws.{every_none, every_more, every_fails, every_done}
 use Rattle.stack.specs.Stack.{held_at}
 use Rattle.executor.specs.Judge.{is_word}
-use Rattle.executor.proofs.Waiting.{all_held}
 use Rattle.executor.proofs.judge.all_words.Given as goal
 
 abbrev pub invariant-loop-i : goal.invariant-loop-i

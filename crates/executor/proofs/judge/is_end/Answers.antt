@@ -1,10 +1,5 @@
 -- Each test in turn decides one part of the conjunction; a sound section's end fits a word.
-use mathlib.Core.Path.{sym, ap, ◌∙◌}
 use native.Mathlib.Omega.{arith}
-use borrow.Author.Rules.{rules}
-use borrow.Author.Tests.{lt-ltb, le-ltb, eq-eqb, ne_eqb}
-use Rattle.image.specs.declared.Section.{Section}
-use Rattle.image.specs.Layout.{sections}
 use Rattle.image.proofs.SoundTables.{sound_tables}
 use Rattle.image.proofs.SectionLaws.{section_at_lem}
 use Rattle.executor.proofs.judge.is_end.Goals as goal

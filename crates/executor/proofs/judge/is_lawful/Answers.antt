@@ -1,6 +1,5 @@
 -- Each test in turn decides one part of the conjunction.
 use mathlib.Core.Path.{sym, ◌∙◌}
-use borrow.Author.Rules.{rules}
 use Rattle.stack.proofs.ValidLaws.{valid_stack_lem}
 use Rattle.executor.proofs.judge.is_lawful.Goals as goal
 

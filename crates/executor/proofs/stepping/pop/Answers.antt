@@ -2,10 +2,9 @@
 use mathlib.Core.Path.{ap, ◌∙◌}
 use Prim.Native.Nat.{◌-◌}
 use native.Mathlib.Omega.{arith}
-use borrow.Author.Rules.{rules}
 use Rattle.executor.specs.Judge.{is_word}
 use Rattle.executor.proofs.Judging.{held_word, fewer_held}
-use Rattle.executor.proofs.Answering.{popped_none, popped_some}
+use Rattle.executor.proofs.Answering.{popped_some}
 use Rattle.executor.proofs.stepping.pop.Goals as goal
 
 pub top_place-p-requires : goal.top_place-p-requires

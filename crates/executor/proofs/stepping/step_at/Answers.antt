@@ -1,8 +1,7 @@
 -- The word read is the four bytes at its place.
 use mathlib.Core.Path.{ap, ◌∙◌}
-use borrow.Author.Rules.{rules}
 use Rattle.visited.specs.Bits.{with_bit}
-use Rattle.executor.proofs.Judging.{word_fine, word_in_code, word_read}
+use Rattle.executor.proofs.Judging.{word_read}
 use Rattle.executor.proofs.stepping.step_at.Goals as goal
 
 pub returns : goal.returns
