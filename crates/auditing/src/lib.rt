@@ -58,7 +58,14 @@ fn parse<R: Print + Eprint + Env + Files>(rt: &R, file: &[u8], o: Options) -> io
 }
 
 // The image's words and the starts, in the rooms that they were read into.
-fn judge<R: Print + Eprint + Env + Files>(rt: &R, data: &[u8], im: &[u32], starts: &[u64], h: Head, o: Options) -> io::Result<()> {
+fn judge<R: Print + Eprint + Env + Files>(
+    rt: &R,
+    data: &[u8],
+    im: &[u32],
+    starts: &[u64],
+    h: Head,
+    o: Options,
+) -> io::Result<()> {
     let words = h.words as usize;
     let count = h.starts as usize;
     if words <= im.len() {
@@ -69,7 +76,14 @@ fn judge<R: Print + Eprint + Env + Files>(rt: &R, data: &[u8], im: &[u32], start
     Ok(())
 }
 
-fn judge_image<R: Print + Eprint + Env + Files>(rt: &R, data: &[u8], im: &[u32], starts: &[u64], h: Head, o: Options) -> io::Result<()> {
+fn judge_image<R: Print + Eprint + Env + Files>(
+    rt: &R,
+    data: &[u8],
+    im: &[u32],
+    starts: &[u64],
+    h: Head,
+    o: Options,
+) -> io::Result<()> {
     match image::check_image(im, data) {
         Judged::Broken => refusals::broken_image(
             rt,
@@ -85,7 +99,14 @@ fn judge_image<R: Print + Eprint + Env + Files>(rt: &R, data: &[u8], im: &[u32],
 // clear than a small program takes to walk.
 const FEW_STARTS: usize = 256;
 
-fn walk_image<R: Print + Eprint + Env + Files>(rt: &R, data: &[u8], im: &[u32], starts: &[u64], h: Head, o: Options) -> io::Result<()>
+fn walk_image<R: Print + Eprint + Env + Files>(
+    rt: &R,
+    data: &[u8],
+    im: &[u32],
+    starts: &[u64],
+    h: Head,
+    o: Options,
+) -> io::Result<()>
     requires { sound im.now (length «data».now) ≡ true }
 {
     if starts.len() <= FEW_STARTS {
@@ -97,7 +118,14 @@ fn walk_image<R: Print + Eprint + Env + Files>(rt: &R, data: &[u8], im: &[u32], 
 }
 
 // Whether the small room was enough. If not, nothing was written.
-fn walk_few<R: Print + Eprint + Env + Files>(rt: &R, data: &[u8], im: &[u32], starts: &[u64], h: Head, o: Options) -> io::Result<bool>
+fn walk_few<R: Print + Eprint + Env + Files>(
+    rt: &R,
+    data: &[u8],
+    im: &[u32],
+    starts: &[u64],
+    h: Head,
+    o: Options,
+) -> io::Result<bool>
     requires { sound im.now (length «data».now) ≡ true }
 {
     let two = h.two;
@@ -134,7 +162,14 @@ fn is_full(w: Walked) -> bool {
     }
 }
 
-fn walk_many<R: Print + Eprint + Env + Files>(rt: &R, data: &[u8], im: &[u32], starts: &[u64], h: Head, o: Options) -> io::Result<()>
+fn walk_many<R: Print + Eprint + Env + Files>(
+    rt: &R,
+    data: &[u8],
+    im: &[u32],
+    starts: &[u64],
+    h: Head,
+    o: Options,
+) -> io::Result<()>
     requires { sound im.now (length «data».now) ≡ true }
 {
     let two = h.two;
@@ -160,7 +195,15 @@ fn walk_many<R: Print + Eprint + Env + Files>(rt: &R, data: &[u8], im: &[u32], s
 }
 
 // What the walk answered, in the order in which a person wants it.
-fn show<R: Print + Eprint + Env + Files>(rt: &R, data: &[u8], im: &[u32], starts: &[u64], map: &[u32], w: Walked, o: Options) -> io::Result<()>
+fn show<R: Print + Eprint + Env + Files>(
+    rt: &R,
+    data: &[u8],
+    im: &[u32],
+    starts: &[u64],
+    map: &[u32],
+    w: Walked,
+    o: Options,
+) -> io::Result<()>
     requires { sound im.now (length «data».now) ≡ true }
 {
     let answer = w.answer;

@@ -61,7 +61,10 @@ fn tell_rule(rt: &impl Print, r: Rule) -> io::Result<()> {
     match r {
         Rule::Sound => text(rt, b"none"),
         Rule::Words => text(rt, b"the image's words are not as many as its counts say"),
-        Rule::Counts => text(rt, b"not 1 to 64 sections, or more than 4096 entries in a table"),
+        Rule::Counts => text(
+            rt,
+            b"not 1 to 64 sections, or more than 4096 entries in a table",
+        ),
         Rule::Kind => text(rt, b"the image's kind is neither 0 nor 1"),
         Rule::Sections => text(
             rt,
@@ -74,7 +77,10 @@ fn tell_rule(rt: &impl Print, r: Rule) -> io::Result<()> {
             rt,
             b"a bound relocation: no such section, unknown kind, or not inside its section",
         ),
-        Rule::BoundOrder => text(rt, b"bound relocations do not ascend by section, then address"),
+        Rule::BoundOrder => text(
+            rt,
+            b"bound relocations do not ascend by section, then address",
+        ),
         Rule::Unbounds => text(
             rt,
             b"an unbound relocation: no such section, unknown kind, or not inside its section",
@@ -128,5 +134,8 @@ fn place_of(key: u64) -> SectionAddress {
 
 // Answer 4.
 pub(crate) fn small_map(rt: &impl Print) -> io::Result<()> {
-    line(rt, b"refused, 4: the visited map has fewer bits than there are Code words\nanswer 4")
+    line(
+        rt,
+        b"refused, 4: the visited map has fewer bits than there are Code words\nanswer 4",
+    )
 }

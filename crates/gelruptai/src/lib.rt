@@ -117,12 +117,7 @@ pub fn gelruptai_write_report(
 }
 
 // `report::read_report`: 0, 1, 4, 13.
-pub fn gelruptai_read_report(
-    im: &[u32],
-    data: &[u8],
-    bytes: &[u8],
-    map: &mut [u32],
-) -> u32
+pub fn gelruptai_read_report(im: &[u32], data: &[u8], bytes: &[u8], map: &mut [u32]) -> u32
     ensures value { result ≡ read_number (read_answer im.now (length «data».now) bytes.now map.old) }
     ensures map { map.new ≡ read_leaves im.now (length «data».now) bytes.now map.old }
 {

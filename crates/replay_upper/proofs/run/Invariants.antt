@@ -1,4 +1,3 @@
-use Rattle.std.proofs.Common.{◌<◌, ◌≡◌, length, ℕ, ◌+◌, ◌-◌, ◌*◌, ◌≤◌}
 use Rattle.replay_upper.proofs.run.Given as goal
 
 abbrev pub decreases-loop-left : goal.decreases-loop-left
