@@ -10,7 +10,7 @@ def made(command, folder, missing):
 
 def proved(program):
     "a program of ours; where it is"
-    made(['rt', 'run', program], ROOT, f'{program} is not proved')
+    made(['rt', 'run'], f'{ROOT}/crates/{program}', f'{program} is not proved')
     return f'{ROOT}/crates/{program}/out/{program}'
 
 def build(program):

@@ -1,6 +1,6 @@
 /* Gelruptai for C: the proved walk over PowerPC 750CL code, its jump tables and its report, in libgelruptai.a (x86-64).
  *
- * Link:  rt lib gelruptai_c && cp crates/gelruptai_c/out/libgelruptai_c.a libgelruptai.a && cc -Iinclude program.c libgelruptai.a
+ * Link:  (cd crates/gelruptai_c && rt lib) && cp crates/gelruptai_c/out/libgelruptai_c.a libgelruptai.a && cc -Iinclude program.c libgelruptai.a
  *
  * Each function is proved to do what crates/gelruptai/specs says, for every content and every length of what is lent. What the
  * proofs can't see is what a C pointer owes:
