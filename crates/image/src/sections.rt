@@ -45,42 +45,16 @@ pub fn sections_sound(im: &[u32]) -> bool
     requires { Laid im.now }
     ensures { result ≡ sections_sound im.now }
 {
-    let n = section_count(im);
-    let mut i = 0;
-    while i < n {
-        if !section_sound(section(im, i)) {
-            return false;
-        }
-        i += 1;
-    }
-    true
-}
-
-fn smaller(a: u64, b: u64) -> u64
-    ensures { result ≡ min a b }
-{
-    if a <= b {
-        return a;
-    }
-    b
-}
-
-fn larger(a: u64, b: u64) -> u64
-    ensures { result ≡ max a b }
-{
-    if a <= b {
-        return b;
-    }
-    a
+    (0..section_count(im)).all(|i| section_sound(section(im, i)))
 }
 
 // Two sections share no byte.
 pub fn are_apart(s: Section, t: Section) -> bool
     ensures { result ≡ apart s t }
 {
-    let end = smaller(end_of(s), end_of(t));
-    let start = larger(s.address as u64, t.address as u64);
-    end <= start
+    let end = end_of(s).min(end_of(t));
+    let start = s.address.max(t.address);
+    end <= start as u64
 }
 
 // Section i shares no byte with one before it.
@@ -89,14 +63,7 @@ fn apart_before(im: &[u32], i: usize) -> bool
     ensures { result ≡ every (λ (j : ℕ). apart (section_at im.now j) (section_at im.now i)) i }
 {
     let t = section(im, i);
-    let mut j = 0;
-    while j < i {
-        if !are_apart(section(im, j), t) {
-            return false;
-        }
-        j += 1;
-    }
-    true
+    (0..i).all(|j| are_apart(section(im, j), t))
 }
 
 // In an Executable no byte is in two sections.
@@ -104,18 +71,7 @@ pub fn sections_apart(im: &[u32]) -> bool
     requires { Laid im.now }
     ensures { result ≡ sections_apart im.now }
 {
-    if im[0] != EXECUTABLE {
-        return true;
-    }
-    let n = section_count(im);
-    let mut i = 0;
-    while i < n {
-        if !apart_before(im, i) {
-            return false;
-        }
-        i += 1;
-    }
-    true
+    im[0] != EXECUTABLE || (0..section_count(im)).all(|i| apart_before(im, i))
 }
 
 // Each section's data lies in a buffer of n bytes.
@@ -123,14 +79,8 @@ pub fn data_inside(im: &[u32], n: usize) -> bool
     requires { Laid im.now }
     ensures { result ≡ data_inside im.now n }
 {
-    let count = section_count(im);
-    let mut i = 0;
-    while i < count {
+    (0..section_count(im)).all(|i| {
         let s = section(im, i);
-        if s.place as usize + s.length as usize > n {
-            return false;
-        }
-        i += 1;
-    }
-    true
+        s.place as usize + s.length as usize <= n
+    })
 }
