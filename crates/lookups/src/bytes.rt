@@ -38,6 +38,7 @@ pub fn read_u32(im: &[u32], bytes: &[u8], at: SectionAddress) -> MaybeWord
 }
 
 // Whether a place has data: its section exists, is no Bss and holds the address.
+#[tactic(auto, using(image::proofs::SoundTables::laid))]
 fn has_data(im: &[u32], at: SectionAddress) -> bool
     requires { tables_sound im.now ≡ true }
     ensures { result ≡ has_data im.now at }
@@ -47,10 +48,7 @@ fn has_data(im: &[u32], at: SectionAddress) -> bool
         return false;
     }
     let s = section(im, i);
-    if s.kind == BSS {
-        return false;
-    }
-    is_within(s.address, s.size, at.address)
+    s.kind != BSS && is_within(s.address, s.size, at.address)
 }
 
 // The bytes of a section of that address, size and place in the buffer, from an address in it to its end.
