@@ -38,7 +38,6 @@ pub fn read_u32(im: &[u32], bytes: &[u8], at: SectionAddress) -> MaybeWord
 }
 
 // Whether a place has data: its section exists, is no Bss and holds the address.
-#[tactic(auto, using(image::proofs::SoundTables::laid))]
 fn has_data(im: &[u32], at: SectionAddress) -> bool
     requires { tables_sound im.now ≡ true }
     ensures { result ≡ has_data im.now at }

@@ -30,7 +30,6 @@ pub fn code_place(im: &[u32], at: SectionAddress) -> CodePlace
 }
 
 // Whether a place is in code: its own section exists, is Code and holds the address.
-#[tactic(auto, using(image::proofs::SoundTables::laid))]
 pub fn is_in_code(im: &[u32], at: SectionAddress) -> bool
     requires { tables_sound im.now ≡ true }
     ensures { result ≡ in_code im.now at }

@@ -57,7 +57,6 @@ pub fn section_address_for(im: &[u32], at: SectionAddress, value: u32) -> MaybeT
 
 // The index of the first unbound entry for a section's elf number and an address. First match is the paper's rule, and
 // the table is in no order: a place with no entry costs one read of each entry, 4,096 at most.
-#[tactic(auto, using(image::proofs::SoundTables::laid))]
 pub fn unbound_index(im: &[u32], elf: u32, a: u32) -> Found
     requires { tables_sound im.now ≡ true }
     ensures { result ≡ unbound_index im.now elf a }

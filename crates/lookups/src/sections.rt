@@ -8,7 +8,6 @@ use image::table::section_count;
 use search::{Found, first};
 
 // The first section that holds the address, or none. It reads two words a section.
-#[tactic(auto, using(image::proofs::SoundTables::laid))]
 pub fn at_address(im: &[u32], a: u32) -> Found
     requires { tables_sound im.now ≡ true }
     ensures { result ≡ at_address im.now a }
