@@ -1,16 +1,15 @@
 -- Records written into the words one after another: one more, the end, and that each has room.
 -- Assumes nothing.
-use mathlib.Core.Path.{◌≡◌, refl, sym, ap, ◌∙◌}
-use mathlib.Core.Bool.{Bool, true, false}
+use mathlib.Core.Path.{◌≡◌, sym, ap, ◌∙◌}
+use mathlib.Core.Bool.{true}
 use mathlib.Core.List.{List, [], ◌∷◌, ◌++◌}
 use Prim.Native.Nat.{ℕ, suc, ◌+◌, ◌*◌, ◌<◌, ◌≤◌}
-use native.Mathlib.Nat.{not-suc-le-zero, add-zero}
+use native.Mathlib.Nat.{add-zero}
 use native.Mathlib.Numerals.{add-one}
 use native.Mathlib.Omega.{arith}
 use lib.ListN.{length, drop, set, drop_of_length-le}
 use lib.Seq.{drop-cons, sets}
 use borrow.Author.Tests.{leb-true}
-use Rattle.words.specs.Choice.{pick}
 use Rattle.search.proofs.EveryLaws.{and_left, and_right}
 use Rattle.image.specs.declared.Section.{Section}
 use Rattle.records.specs.Records.{no_record, nth_record}

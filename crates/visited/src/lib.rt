@@ -11,7 +11,7 @@ use lookups::WordNumber;
 pub fn has_room(map: &[u32], n: usize) -> bool
     ensures { result ≡ has_room map.now n }
 {
-    n / 32 + (n % 32 + 31) / 32 <= map.len()
+    n.div_ceil(32) <= map.len()
 }
 
 // Whether a Code word was visited. No number is refused: a word past the map's end was not.
@@ -30,6 +30,7 @@ pub fn insert(map: &mut [u32], w: WordNumber)
 }
 
 // The map with k Code words in a row visited and every other bit as it was; past the map's end nothing changes.
+#[tactic(auto, using(crate::proofs::BitLaws::run_past_end, crate::proofs::BitLaws::run_one_more), unfolding(crate::specs::Bits::with_run))]
 pub fn mark_run(map: &mut [u32], from: WordNumber, k: u32)
     ensures { map.new ≡ with_run map.old from.0 k }
 {
@@ -92,6 +93,10 @@ fn high_bits(x: u32, k: usize) -> u32
 fn low_ones(x: u32, k: usize) -> usize
     ensures { result ≡ low_ones x (min k 32) }
 {
-    let low = if k < 32 { x % (1u32 << k as u32) } else { x };
-    low.count_ones() as usize
+    if k < 32 {
+        let j = k as u32;
+        (x % (1u32 << j)).count_ones() as usize
+    } else {
+        x.count_ones() as usize
+    }
 }
