@@ -1,13 +1,12 @@
 -- What `(0..n).all(..)` answers: its test passes at every number below n.
 -- Assumes nothing.
-use mathlib.Core.Path.{◌≡◌, refl, sym, ◌∙◌, subst}
+use mathlib.Core.Path.{◌≡◌, sym, ◌∙◌, subst}
 use mathlib.Core.Bool.{Bool, true, false}
-use mathlib.Core.List.{List}
-use Prim.Native.Nat.{ℕ, zero, suc, ◌+◌, ◌-◌, ◌≤◌, ◌<◌}
+use Prim.Native.Nat.{ℕ, zero, suc, ◌<◌}
 use native.Mathlib.Numerals.{add-one}
 use Rattle.std.proofs.Common.{zero-add}
 use native.Mathlib.Omega.{arith}
-use lib.ListN.{length, get_or}
+use lib.ListN.{length}
 use denote.Param.Members.{Mut}
 use Rattle.std.specs.declared.ops.Range.{Range}
 use Rattle.std.specs.Fn.{Called}
