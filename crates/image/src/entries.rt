@@ -33,12 +33,10 @@ fn bound_sound(im: &[u32], r: Bound) -> bool
     requires { Laid im.now }
     ensures { result ≡ bound_sound im.now r }
 {
-    if r.section >= im[2] {
-        return false;
-    }
-    let inside = lies_in(section(im, r.section as usize), r.address, r.kind);
-    let symbol = (r.symbol_section == NO_SECTION) | (r.symbol_section < im[2]);
-    (r.kind < 2) & inside & symbol
+    r.section < im[2]
+        && r.kind < 2
+        && lies_in(section(im, r.section as usize), r.address, r.kind)
+        && (r.symbol_section == NO_SECTION || r.symbol_section < im[2])
 }
 
 // Every bound relocation is sound by itself.
@@ -70,9 +68,8 @@ fn unbound_sound(im: &[u32], r: Unbound) -> bool
     requires { Laid im.now }
     ensures { result ≡ unbound_sound im.now r }
 {
-    let found = elf_index(im, r.section);
-    match found {
-        Found::At(i) => (r.kind < 2) & lies_in(section(im, i), r.address, r.kind),
+    match elf_index(im, r.section) {
+        Found::At(i) => r.kind < 2 && lies_in(section(im, i), r.address, r.kind),
         Found::Nothing => false,
     }
 }
@@ -90,7 +87,7 @@ fn symbol_sound(im: &[u32], s: Symbol) -> bool
     requires { Laid im.now }
     ensures { result ≡ symbol_sound im.now s }
 {
-    (s.section < im[2]) & (s.known < 2)
+    s.section < im[2] && s.known < 2
 }
 
 // Every object symbol is sound by itself.

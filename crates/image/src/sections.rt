@@ -21,23 +21,15 @@ pub fn end_of(s: Section) -> u64
 fn is_aligned(s: Section) -> bool
     ensures { result ≡ aligned s }
 {
-    if s.kind == CODE {
-        return (s.address % 4 == 0) & (s.size % 4 == 0);
-    }
-    true
+    s.kind != CODE || (s.address % 4 == 0 && s.size % 4 == 0)
 }
 
 // A known kind, an end below 2^32, data of exactly size bytes and none for Bss, Code aligned.
 pub fn section_sound(s: Section) -> bool
     ensures { result ≡ section_sound s }
 {
-    let end = end_of(s);
-    let fine = is_aligned(s);
-    let head = (s.kind < 4) & (end < 0x1_0000_0000);
-    if s.kind == BSS {
-        return head & (s.length == 0) & fine;
-    }
-    head & (s.length == s.size) & fine
+    let stored = if s.kind == BSS { 0 } else { s.size };
+    s.kind < 4 && end_of(s) < 0x1_0000_0000 && s.length == stored && is_aligned(s)
 }
 
 // Every section is sound by itself.
