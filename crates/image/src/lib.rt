@@ -67,10 +67,9 @@ pub enum Judged {
 pub fn check_image(im: &[u32], data: &[u8]) -> Judged
     ensures { result ≡ judged im.now (length «data».now) }
 {
-    if judge::tables_sound(im) {
-        if sections::data_inside(im, data.len()) {
-            return Judged::Sound;
-        }
+    if judge::tables_sound(im) && sections::data_inside(im, data.len()) {
+        Judged::Sound
+    } else {
+        Judged::Broken
     }
-    Judged::Broken
 }

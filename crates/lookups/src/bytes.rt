@@ -47,10 +47,7 @@ fn has_data(im: &[u32], at: SectionAddress) -> bool
         return false;
     }
     let s = section(im, i);
-    if s.kind == BSS {
-        return false;
-    }
-    is_within(s.address, s.size, at.address)
+    s.kind != BSS && is_within(s.address, s.size, at.address)
 }
 
 // The bytes of a section of that address, size and place in the buffer, from an address in it to its end.

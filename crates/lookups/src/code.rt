@@ -19,13 +19,14 @@ pub fn code_place(im: &[u32], at: SectionAddress) -> CodePlace
     requires { tables_sound im.now ≡ true }
     ensures { result ≡ code_place im.now at }
 {
-    if is_in_code(im, at) {
-        if at.address % 4 == 0 {
-            return CodePlace::Fine;
-        }
-        return CodePlace::Misaligned;
+    if !is_in_code(im, at) {
+        return CodePlace::NotCode;
     }
-    CodePlace::NotCode
+    if at.address % 4 == 0 {
+        CodePlace::Fine
+    } else {
+        CodePlace::Misaligned
+    }
 }
 
 // Whether a place is in code: its own section exists, is Code and holds the address.
@@ -38,10 +39,7 @@ pub fn is_in_code(im: &[u32], at: SectionAddress) -> bool
         return false;
     }
     let s = section(im, i);
-    if s.kind != CODE {
-        return false;
-    }
-    is_within(s.address, s.size, at.address)
+    s.kind == CODE && is_within(s.address, s.size, at.address)
 }
 
 // The number of the Code word at a place of code: it is below W. It reads two words of each section before the place's own.

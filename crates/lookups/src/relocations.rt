@@ -1,10 +1,8 @@
 // What the two relocation tables say of a place, and the place of a value.
 // Requires sound tables.
-ghost use Rattle.std.specs.Prelude.{◌≡◌, true, ◌+◌, ◌*◌, ◌≤◌, ◌<◌, length};
-ghost use Rattle.search.specs.First.{first};
-ghost use Rattle.image.specs.Layout.{unbounds_from};
+ghost use Rattle.std.specs.Prelude.{◌≡◌, true, ◌+◌, ◌*◌, ◌<◌, length};
 ghost use Rattle.image.specs.Rules.{tables_sound};
-ghost use Rattle.lookups.specs.Relocations.{differs, bound_target, entry_is, unbound_here, unbound_index, into_section, unbound_target, unbound_for, relocation_for, target_at, place_in, bare_address, section_address_for};
+ghost use Rattle.lookups.specs.Relocations.{differs, bound_target, entry_is, unbound_index, into_section, unbound_target, unbound_for, relocation_for, target_at, place_in, bare_address, section_address_for};
 
 use crate::sections::{at_address, is_within};
 use crate::sorted::bound_index;
@@ -14,7 +12,7 @@ use image::numbers::{ABSOLUTE, EXECUTABLE, NO_SECTION};
 use image::table::{bound, section, section_count, unbound, unbound_count, unbounds_from};
 use image::{Bound, Unbound};
 use places::{MaybeTarget, RelocationTarget, SectionAddress};
-use search::Found;
+use search::{Found, first};
 use words::sum::wrapping_add;
 
 // What the tables say of a place: the bound one first, then the unbound one. Nothing where neither has an entry.
@@ -63,21 +61,8 @@ pub fn unbound_index(im: &[u32], elf: u32, a: u32) -> Found
     requires { tables_sound im.now ≡ true }
     ensures { result ≡ unbound_index im.now elf a }
 {
-    first_unbound(im, unbounds_from(im), unbound_count(im), elf, a)
-}
-
-fn first_unbound(im: &[u32], from: usize, n: usize, elf: u32, a: u32) -> Found
-    requires { (from ≡ unbounds_from im.now) × (from + n * 6 ≤ length im.now) }
-    ensures { result ≡ first (unbound_here im.now elf a) n }
-{
-    let mut j: usize = 0;
-    while j < n {
-        if is_entry(im, from + j * 6, elf, a) {
-            return Found::At(j);
-        }
-        j += 1;
-    }
-    Found::Nothing
+    let from = unbounds_from(im);
+    first(unbound_count(im), |j| is_entry(im, from + j * 6, elf, a))
 }
 
 // Whether the entry that begins at a word is for that elf number and address. The address alone rules out most.
@@ -85,10 +70,7 @@ fn is_entry(im: &[u32], k: usize, elf: u32, a: u32) -> bool
     requires { k + 1 < length im.now }
     ensures { result ≡ entry_is im.now k elf a }
 {
-    if im[k + 1] != a {
-        return false;
-    }
-    im[k] == elf
+    im[k + 1] == a && im[k] == elf
 }
 
 // A value with no relocation: by the section that holds it in an Executable, else by section i alone.

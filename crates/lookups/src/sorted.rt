@@ -48,6 +48,7 @@ fn index_by_halves(im: &[u32], from: usize, stride: usize, n: usize, at: Section
     let wanted = key(at.section, at.address);
     let mut lo: usize = 0;
     let mut hi: usize = n;
+    // By hand: the places are words of the lent image (the C interface), and no slice that the library could search.
     while lo < hi {
         let mid = lo + (hi - lo) / 2;
         if key_at(im, from + mid * stride) < wanted {

@@ -5,7 +5,8 @@
 ghost use Rattle.std.specs.Prelude.{◌≡◌};
 ghost use Rattle.places.specs.Places.{moved, before};
 
-#[derive(Clone, Copy)]
+// Places are ordered by section, then by address.
+#[derive(Clone, Copy, PartialEq, Eq, PartialOrd, Ord)]
 pub struct SectionAddress {
     pub section: u32,
     pub address: u32,
@@ -46,6 +47,5 @@ pub fn offset(p: SectionAddress, n: u32) -> SectionAddress
 pub fn is_before(a: SectionAddress, b: SectionAddress) -> bool
     ensures { result ≡ before a b }
 {
-    let same = a.section == b.section;
-    (a.section < b.section) | (same & (a.address < b.address))
+    a < b
 }

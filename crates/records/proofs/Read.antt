@@ -9,6 +9,7 @@ use native.Mathlib.Nat.{not-suc-le-zero, add-zero, le_of_suc-le-suc}
 use native.Mathlib.Omega.{arith}
 use lib.ListN.{length, set, length-set}
 use lib.Seq.{sets, length-sets, get_or-set_same, get_or-set_other}
+use Rattle.std.specs.Prelude.{Ok, Err}
 use Rattle.words.specs.Choice.{pick}
 use Rattle.search.specs.First.{first_from, first}
 use Rattle.search.specs.declared.Found.{Found}
@@ -18,8 +19,8 @@ use Rattle.image.specs.Layout.{word, sections, section_at}
 use Rattle.image.specs.Rules.{holds, has_elf, elf_index}
 use Rattle.records.specs.Records.{nth_record, numbered, first_record, record_at, record_by_elf}
 use Rattle.records.specs.Written.{few, roomy, fits, section_words, table_words, with_sections, written}
-use Rattle.records.specs.declared.Written.{Written}
-use Rattle.records.specs.declared.Written.TheVariants.{TooMany, NoRoom, Sections}
+use Rattle.records.specs.declared.WriteError.{WriteError}
+use Rattle.records.specs.declared.WriteError.TheVariants.{TooMany, NoRoom}
 use Rattle.records.proofs.WrittenLaws.{fit_room}
 
 -- ---- a run of stores, read
@@ -88,20 +89,24 @@ record_stands ws t i room h =
         let l' : j < length (table_words t) = omega arith in
         ap (word (sets ws 6 (table_words t))) e ∙ stored_at ws 6 (table_words t) j r l'
 
--- one more than an answer's number of sections, 0 for a refusal
-abbrev count : Written → ℕ
-count TooMany = 0
-count NoRoom = 0
-count (Sections n) = suc n
-
 -- an answer of so many sections says that the records fit, and that it is all of them
-pub answer_fits : (n m k : ℕ) → written n m ≡ Sections k → (fits n m ≡ true) × (k ≡ n)
+pub answer_fits : (n m k : ℕ) → written n m ≡ Ok k → (fits n m ≡ true) × (k ≡ n)
 answer_fits n m k e = by_case (few n) (roomy n m) e
   where
-    by_case : (a b : Bool) → pick a (pick b (Sections n) NoRoom) TooMany ≡ Sections k → (a && b ≡ true) × (k ≡ n)
-    by_case true true e = let h : suc n ≡ suc k = ap count e in (refl, omega arith)
-    by_case true false e = let h : 0 ≡ suc k = ap count e in absurd (omega arith)
-    by_case false b e = let h : 0 ≡ suc k = ap count e in absurd (omega arith)
+    by_case : (a b : Bool) → pick a (pick b (Ok n) (Err NoRoom)) (Err TooMany) ≡ Ok k → (a && b ≡ true) × (k ≡ n)
+    by_case true true e = let h : k ≡ n = cc in (refl, h)
+    by_case true false e = cc
+    by_case false b e = cc
+
+-- a refusal says that they don't
+pub error_fits : (n m : ℕ) (r : WriteError) → written n m ≡ Err r → fits n m ≡ false
+error_fits n m r e = by_case (few n) (roomy n m) e
+  where
+    by_case : (a b : Bool) → pick a (pick b (Ok n) (Err NoRoom)) (Err TooMany) ≡ Err r → a && b ≡ false
+    by_case true true e = cc
+    by_case true false e = refl
+    by_case false true e = refl
+    by_case false false e = refl
 
 -- record i stands where the image looks for it
 pub written_record : (ws : List ℕ) (t : List Section) (i : ℕ) → fits (length t) (length ws) ≡ true → i < length t → section_at (with_sections ws t) i ≡ nth_record t i
