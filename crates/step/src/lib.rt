@@ -3,7 +3,7 @@
 #![tactic(auto)]
 
 ghost use Rattle.std.specs.Prelude.{◌≡◌, length};
-ghost use Rattle.step.specs.Step.{stepped_of, refused_of};
+ghost use Rattle.step.specs.Step.{one_state, stepped_of, refused_of};
 
 pub mod arms;
 pub mod done;
@@ -115,14 +115,21 @@ pub struct Stopped {
     pub vm: VM,
 }
 
-fn refused(why: Refusal, state: VM) -> Stepped
-    ensures { result ≡ refused_of why state }
+// A result with one state for both ways.
+fn one_state(r: StepResult, state: VM) -> Stepped
+    ensures { result ≡ one_state r state }
 {
     Stepped {
-        result: StepResult::Refused(why),
+        result: r,
         vm: state,
         other: state,
     }
+}
+
+fn refused(why: Refusal, state: VM) -> Stepped
+    ensures { result ≡ refused_of why state }
+{
+    one_state(StepResult::Refused(why), state)
 }
 
 // The Rust's result for the word at a place. Refuses, in this order, and hands the state back: 1 for a broken image,
@@ -130,16 +137,12 @@ fn refused(why: Refusal, state: VM) -> Stepped
 pub fn step(im: &[u32], data: &[u8], at: SectionAddress, word: u32, state: VM) -> Stepped
     ensures { result ≡ stepped_of im.now (length «data».now) at word state }
 {
-    let judged = image::check_image(im, data);
-    match judged {
+    match image::check_image(im, data) {
         Judged::Broken => refused(Refusal::BrokenImage, state),
-        Judged::Sound => {
-            let place = lookups::code_place(im, at);
-            match place {
-                CodePlace::NotCode => refused(Refusal::NotCode, state),
-                CodePlace::Misaligned => refused(Refusal::Misaligned, state),
-                CodePlace::Fine => done::step_word(im, at, word, state),
-            }
-        }
+        Judged::Sound => match lookups::code_place(im, at) {
+            CodePlace::NotCode => refused(Refusal::NotCode, state),
+            CodePlace::Misaligned => refused(Refusal::Misaligned, state),
+            CodePlace::Fine => done::step_word(im, at, word, state),
+        },
     }
 }
