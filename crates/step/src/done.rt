@@ -63,6 +63,7 @@ fn clear(kind: Writes, w: u32, s: VM) -> VM
     }
 }
 
+#[tactic(auto, unfolding(crate::specs::Step::done_of, crate::specs::Step::step_of))]
 pub fn step_word(im: &[u32], at: SectionAddress, w: u32, s: VM) -> Stepped
     requires { tables_sound im.now ≡ true }
     ensures { result ≡ step_of im.now at w s }

@@ -31,6 +31,7 @@ pub struct Branch {
     pub link: bool,
 }
 
+// Refused is a variant and no Err: `state_after` of straight's theorem, demand 3, reads the state that a refusal hands back.
 #[derive(Clone, Copy)]
 pub enum StepResult {
     Continue,
