@@ -25,10 +25,6 @@ use Rattle.step.specs.declared.Stepped.{Stepped}
 use Rattle.step.specs.Arms.{rd_of, ra_of, rb_of, crfd_of, effect_of}
 use Rattle.step.specs.Ways.{bi_of, leave_of, left_of}
 
--- a result with one state for both ways
-abbrev pub one_state : StepResult → VM → Stepped
-one_state r s = record { result = r; vm = s; other = s }
-
 abbrev pub goes_on : VM → Stepped
 goes_on s = record { result = result.Continue; vm = s; other = s }
 

@@ -4,7 +4,7 @@ ghost use Rattle.std.specs.Prelude.{◌≡◌, true};
 ghost use Rattle.image.specs.Rules.{tables_sound};
 ghost use Rattle.step.specs.Step.{goes_on, access_result, accessed, cleared_of, step_of};
 
-use crate::{Effect, StepResult, Stepped, arms, one_state, ways};
+use crate::{Effect, StepResult, Stepped, arms, ways};
 use decoder::Writes;
 use places::{MaybeTarget, SectionAddress};
 use vm::register::set_direct;
@@ -14,7 +14,11 @@ use words::field;
 fn goes_on(s: VM) -> Stepped
     ensures { result ≡ goes_on s }
 {
-    one_state(StepResult::Continue, s)
+    Stepped {
+        result: StepResult::Continue,
+        vm: s,
+        other: s,
+    }
 }
 
 // The result of a load or store through rA.
@@ -34,7 +38,11 @@ pub fn access_result(seen: MaybeTarget, source: Gpr, w: u32) -> StepResult
 fn accessed_by(seen: MaybeTarget, source: Gpr, w: u32, s: VM) -> Stepped
     ensures { result ≡ accessed seen source w s }
 {
-    one_state(access_result(seen, source, w), s)
+    Stepped {
+        result: access_result(seen, source, w),
+        vm: s,
+        other: s,
+    }
 }
 
 // The registers that the word writes become Unknown.
@@ -90,19 +98,25 @@ pub fn step_word(im: &[u32], at: SectionAddress, w: u32, s: VM) -> Stepped
             goes_on(t)
         }
         Effect::ToLr(v) => {
-            t.lr = Held { value: v };
+            let h = Held { value: v };
+            t.lr = h;
             goes_on(t)
         }
         Effect::ToCtr(v) => {
-            t.ctr = Held { value: v };
+            let h = Held { value: v };
+            t.ctr = h;
             goes_on(t)
         }
         Effect::FromLr => {
-            t.gpr[d] = set_direct(t.lr.value);
+            let h = t.lr;
+            let v = h.value;
+            t.gpr[d] = set_direct(v);
             goes_on(t)
         }
         Effect::FromCtr => {
-            t.gpr[d] = set_direct(t.ctr.value);
+            let h = t.ctr;
+            let v = h.value;
+            t.gpr[d] = set_direct(v);
             goes_on(t)
         }
         Effect::Load { base, seen } => {
@@ -117,7 +131,9 @@ pub fn step_word(im: &[u32], at: SectionAddress, w: u32, s: VM) -> Stepped
         Effect::Clear(kind) => goes_on(clear(kind, w, t)),
         Effect::Leaves(way) => {
             let k = (field::bi(w) / 4) as usize;
-            let l = ways::leave(im, at, w, way, t.ctr.value, t.cr[k]);
+            let h = t.ctr;
+            let v = h.value;
+            let l = ways::leave(im, at, w, way, v, t.cr[k]);
             ways::left(l, at, t)
         }
     }

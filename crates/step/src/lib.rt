@@ -3,7 +3,7 @@
 #![tactic(auto)]
 
 ghost use Rattle.std.specs.Prelude.{◌≡◌, length};
-ghost use Rattle.step.specs.Step.{one_state, stepped_of, refused_of};
+ghost use Rattle.step.specs.Step.{stepped_of, refused_of};
 
 pub mod arms;
 pub mod done;
@@ -116,21 +116,14 @@ pub struct Stopped {
     pub vm: VM,
 }
 
-// A result with one state for both ways.
-fn one_state(r: StepResult, state: VM) -> Stepped
-    ensures { result ≡ one_state r state }
-{
-    Stepped {
-        result: r,
-        vm: state,
-        other: state,
-    }
-}
-
 fn refused(why: Refusal, state: VM) -> Stepped
     ensures { result ≡ refused_of why state }
 {
-    one_state(StepResult::Refused(why), state)
+    Stepped {
+        result: StepResult::Refused(why),
+        vm: state,
+        other: state,
+    }
 }
 
 // The Rust's result for the word at a place. Refuses, in this order, and hands the state back: 1 for a broken image,

@@ -6,7 +6,7 @@ ghost use Rattle.lookups.specs.Relocations.{section_address_for};
 ghost use Rattle.vm.specs.Rules.{reached_of};
 ghost use Rattle.step.specs.Ways.{ctr_target, dest_target, conditional_of, branch_of, leave_of, branches_of, left_of};
 
-use crate::{Branch, Leave, StepResult, Stepped, Way, one_state};
+use crate::{Branch, Leave, StepResult, Stepped, Way};
 use places::{MaybeTarget, RelocationTarget, SectionAddress};
 use vm::{BranchTarget, Cr, GprValue, VM, rule};
 use words::field;
@@ -127,8 +127,16 @@ pub fn left(l: Leave, at: SectionAddress, s: VM) -> Stepped
     ensures { result ≡ left_of l at s }
 {
     match l {
-        Leave::Ended | Leave::Illegal => one_state(StepResult::Illegal, s),
-        Leave::Jump(target) => one_state(StepResult::Jump(target), s),
+        Leave::Ended | Leave::Illegal => Stepped {
+            result: StepResult::Illegal,
+            vm: s,
+            other: s,
+        },
+        Leave::Jump(target) => Stepped {
+            result: StepResult::Jump(target),
+            vm: s,
+            other: s,
+        },
         Leave::Call(target) => Stepped {
             result: branches(at, target, true),
             vm: vm::state::clone_for_return(s),
@@ -144,6 +152,10 @@ pub fn left(l: Leave, at: SectionAddress, s: VM) -> Stepped
             vm: vm::state::set_comparison_result(s, stays, crf),
             other: vm::state::set_comparison_result(s, goes, crf),
         },
-        Leave::Both(target) => one_state(branches(at, target, false), s),
+        Leave::Both(target) => Stepped {
+            result: branches(at, target, false),
+            vm: s,
+            other: s,
+        },
     }
 }
