@@ -1,7 +1,7 @@
--- What a judged image tells: sound tables, or a broken rule.
+-- What an image that was judged Sound tells: sound tables.
 -- Assumes nothing.
 use mathlib.Core.Path.{◌≡◌, refl}
-use mathlib.Core.Bool.{Bool, true, false, ◌&&◌}
+use mathlib.Core.Bool.{Bool, true, false}
 use native.Mathlib.Omega.{arith}
 use Prim.Native.Nat.{ℕ}
 use Rattle.words.specs.Choice.{pick}
@@ -10,11 +10,3 @@ use Rattle.image.specs.declared.Judged.TheVariants.{Broken, Sound}
 pub when_sound : (b : Bool) → pick b Sound Broken ≡ Sound → b ≡ true
 when_sound true h = refl
 when_sound false h = let z : ◌≡◌ {A = ℕ} 0 1 = cc in absurd (omega arith)
-
-pub when_broken : (b : Bool) → pick b Sound Broken ≡ Broken → b ≡ false
-when_broken true h = let z : ◌≡◌ {A = ℕ} 0 1 = cc in absurd (omega arith)
-when_broken false h = refl
-
-pub both_hold : (a b : Bool) → (a && b) ≡ true → a ≡ true
-both_hold true b h = refl
-both_hold false b h = h

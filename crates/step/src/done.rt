@@ -25,12 +25,11 @@ fn goes_on(s: VM) -> Stepped
 pub fn access_result(seen: MaybeTarget, source: Gpr, w: u32) -> StepResult
     ensures { result ≡ access_result seen source w }
 {
-    let a = field::ra(w) as u8;
     match seen {
         MaybeTarget::Known(t) => StepResult::LoadStore {
             address: t,
-            source: source,
-            source_reg: a,
+            source,
+            source_reg: field::ra(w) as u8,
         },
         MaybeTarget::Missing => StepResult::Continue,
     }
@@ -72,6 +71,7 @@ fn clear(kind: Writes, w: u32, s: VM) -> VM
     }
 }
 
+#[tactic(auto, unfolding(crate::specs::Step::done_of, crate::specs::Step::step_of))]
 pub fn step_word(im: &[u32], at: SectionAddress, w: u32, s: VM) -> Stepped
     requires { tables_sound im.now ≡ true }
     ensures { result ≡ step_of im.now at w s }

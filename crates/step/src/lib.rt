@@ -31,6 +31,7 @@ pub struct Branch {
     pub link: bool,
 }
 
+// Refused is a variant and no Err: `state_after` of straight's theorem, demand 3, reads the state that a refusal hands back.
 #[derive(Clone, Copy)]
 pub enum StepResult {
     Continue,
@@ -130,16 +131,12 @@ fn refused(why: Refusal, state: VM) -> Stepped
 pub fn step(im: &[u32], data: &[u8], at: SectionAddress, word: u32, state: VM) -> Stepped
     ensures { result ≡ stepped_of im.now (length «data».now) at word state }
 {
-    let judged = image::check_image(im, data);
-    match judged {
+    match image::check_image(im, data) {
         Judged::Broken => refused(Refusal::BrokenImage, state),
-        Judged::Sound => {
-            let place = lookups::code_place(im, at);
-            match place {
-                CodePlace::NotCode => refused(Refusal::NotCode, state),
-                CodePlace::Misaligned => refused(Refusal::Misaligned, state),
-                CodePlace::Fine => done::step_word(im, at, word, state),
-            }
-        }
+        Judged::Sound => match lookups::code_place(im, at) {
+            CodePlace::NotCode => refused(Refusal::NotCode, state),
+            CodePlace::Misaligned => refused(Refusal::Misaligned, state),
+            CodePlace::Fine => done::step_word(im, at, word, state),
+        },
     }
 }

@@ -10,7 +10,7 @@ pub fn set_direct(value: GprValue) -> Gpr
     ensures { result ≡ direct value }
 {
     Gpr {
-        value: value,
+        value,
         hi_addr: MaybeAddress::Nowhere,
         lo_addr: MaybeAddress::Nowhere,
     }
@@ -20,7 +20,7 @@ pub fn set_hi(value: GprValue, addr: SectionAddress) -> Gpr
     ensures { result ≡ high value addr }
 {
     Gpr {
-        value: value,
+        value,
         hi_addr: MaybeAddress::At(addr),
         lo_addr: MaybeAddress::Nowhere,
     }
@@ -34,12 +34,12 @@ pub fn set_lo(value: GprValue, addr: SectionAddress, hi_gpr: Gpr) -> Gpr
     let lo = hi_gpr.lo_addr;
     match lo {
         MaybeAddress::At(_) => Gpr {
-            value: value,
+            value,
             hi_addr: hi,
             lo_addr: lo,
         },
         MaybeAddress::Nowhere => Gpr {
-            value: value,
+            value,
             hi_addr: hi,
             lo_addr: MaybeAddress::At(addr),
         },
@@ -50,11 +50,5 @@ pub fn set_lo(value: GprValue, addr: SectionAddress, hi_gpr: Gpr) -> Gpr
 pub fn with_value(g: Gpr, value: GprValue) -> Gpr
     ensures { result ≡ marked g value }
 {
-    let hi = g.hi_addr;
-    let lo = g.lo_addr;
-    Gpr {
-        value: value,
-        hi_addr: hi,
-        lo_addr: lo,
-    }
+    Gpr { value, ..g }
 }

@@ -15,8 +15,7 @@ pub fn offset(target: RelocationTarget, n: u32) -> GprValue
 {
     match target {
         RelocationTarget::Address(p) => {
-            let q = places::offset(p, n);
-            GprValue::Address(RelocationTarget::Address(q))
+            GprValue::Address(RelocationTarget::Address(places::offset(p, n)))
         }
         RelocationTarget::External => GprValue::Unknown,
     }
@@ -25,16 +24,10 @@ pub fn offset(target: RelocationTarget, n: u32) -> GprValue
 pub fn add(left: GprValue, right: GprValue) -> GprValue
     ensures { result ≡ add_of left right }
 {
-    match left {
-        GprValue::Constant(a) => match right {
-            GprValue::Constant(b) => GprValue::Constant(wrapping_add(a, b)),
-            GprValue::Address(t) => offset(t, a),
-            _ => GprValue::Unknown,
-        },
-        GprValue::Address(t) => match right {
-            GprValue::Constant(b) => offset(t, b),
-            _ => GprValue::Unknown,
-        },
+    match (left, right) {
+        (GprValue::Constant(a), GprValue::Constant(b)) => GprValue::Constant(wrapping_add(a, b)),
+        (GprValue::Constant(n), GprValue::Address(t))
+        | (GprValue::Address(t), GprValue::Constant(n)) => offset(t, n),
         _ => GprValue::Unknown,
     }
 }
@@ -51,21 +44,14 @@ pub fn addis(left: GprValue, simm: u32) -> GprValue
 pub fn addi(left: GprValue, simm: u32) -> GprValue
     ensures { result ≡ addi_of left simm }
 {
-    match left {
-        GprValue::Constant(a) => GprValue::Constant(wrapping_add(a, simm)),
-        GprValue::Address(t) => offset(t, simm),
-        _ => GprValue::Unknown,
-    }
+    add(left, GprValue::Constant(simm))
 }
 
 pub fn subf(left: GprValue, right: GprValue) -> GprValue
     ensures { result ≡ subf_of left right }
 {
-    match left {
-        GprValue::Constant(a) => match right {
-            GprValue::Constant(b) => GprValue::Constant(subtract_from(a, b)),
-            _ => GprValue::Unknown,
-        },
+    match (left, right) {
+        (GprValue::Constant(a), GprValue::Constant(b)) => GprValue::Constant(subtract_from(a, b)),
         _ => GprValue::Unknown,
     }
 }
@@ -73,45 +59,35 @@ pub fn subf(left: GprValue, right: GprValue) -> GprValue
 pub fn subfic(left: GprValue, simm: u32) -> GprValue
     ensures { result ≡ subfic_of left simm }
 {
-    match left {
-        GprValue::Constant(a) => GprValue::Constant(subtract_from(a, simm)),
-        _ => GprValue::Unknown,
-    }
+    subf(left, GprValue::Constant(simm))
 }
 
 pub fn ori(left: GprValue, uimm: u32) -> GprValue
     ensures { result ≡ ori_of left uimm }
 {
-    match left {
-        GprValue::Constant(a) => GprValue::Constant(a | uimm),
-        _ => GprValue::Unknown,
-    }
+    or(left, GprValue::Constant(uimm))
 }
 
 pub fn or(left: GprValue, right: GprValue) -> GprValue
     ensures { result ≡ or_of left right }
 {
-    match left {
-        GprValue::Constant(a) => match right {
-            GprValue::Constant(b) => GprValue::Constant(a | b),
-            _ => GprValue::Unknown,
-        },
+    match (left, right) {
+        (GprValue::Constant(a), GprValue::Constant(b)) => GprValue::Constant(a | b),
         _ => GprValue::Unknown,
     }
 }
 
 // The rotate rule, by an amount that is taken modulo 32.
+#[tactic(auto, using(crate::proofs::Values::neither), unfolding(crate::specs::Rules::rotate_of))]
 pub fn rotate(value: GprValue, shift: u32, mask: u32) -> GprValue
     ensures { result ≡ rotate_of value shift mask }
 {
     match value {
         GprValue::Constant(a) => GprValue::Constant(rotate_left(a, shift) & mask),
         GprValue::Range { min, max, step } => {
-            let lo = rotate_left(min, shift) & mask;
-            let hi = rotate_left(max, shift) & mask;
             GprValue::Range {
-                min: lo,
-                max: hi,
+                min: rotate_left(min, shift) & mask,
+                max: rotate_left(max, shift) & mask,
                 step: rotate_left(step, shift),
             }
         }
@@ -149,19 +125,7 @@ pub fn max_offset(index: GprValue) -> TableSize
     ensures { result ≡ max_offset_of index }
 {
     match index {
-        GprValue::Range {
-            min: _,
-            max,
-            step: _,
-        } => {
-            let small = max < 4_294_967_291;
-            let whole = max % 4 == 0;
-            if small & whole {
-                non_zero(max)
-            } else {
-                TableSize::Guessed
-            }
-        }
+        GprValue::Range { max, .. } if max < 4_294_967_291 && max % 4 == 0 => non_zero(max),
         _ => TableSize::Guessed,
     }
 }
@@ -171,10 +135,9 @@ pub fn lwzx(table: MaybeTarget, index: GprValue) -> GprValue
 {
     match table {
         MaybeTarget::Known(t) => {
-            let m = max_offset(index);
             GprValue::LoadIndexed {
                 address: t,
-                max_offset: m,
+                max_offset: max_offset(index),
             }
         }
         MaybeTarget::Missing => GprValue::Unknown,
@@ -186,13 +149,10 @@ pub fn size(max_offset: TableSize) -> TableSize
     ensures { result ≡ size_of max_offset }
 {
     match max_offset {
-        TableSize::Bytes(n) => {
-            if n < 4_294_967_292 {
-                TableSize::Bytes(n + 4)
-            } else {
-                TableSize::Guessed
-            }
-        }
+        TableSize::Bytes(n) => match n.checked_add(4) {
+            Some(m) => TableSize::Bytes(m),
+            None => TableSize::Guessed,
+        },
         TableSize::Guessed => TableSize::Guessed,
     }
 }
@@ -201,18 +161,14 @@ pub fn size(max_offset: TableSize) -> TableSize
 pub fn base(g: Gpr, update: bool, seen: MaybeTarget, addr: SectionAddress) -> Gpr
     ensures { result ≡ base_of g update seen addr }
 {
-    if update {
-        match seen {
-            MaybeTarget::Known(t) => set_lo(GprValue::Address(t), addr, g),
-            MaybeTarget::Missing => {
-                let v = g.value;
-                match v {
-                    GprValue::Constant(_) => g,
-                    _ => set_direct(GprValue::Unknown),
-                }
-            }
-        }
-    } else {
-        g
+    if !update {
+        return g;
+    }
+    match seen {
+        MaybeTarget::Known(t) => set_lo(GprValue::Address(t), addr, g),
+        MaybeTarget::Missing => match g.value {
+            GprValue::Constant(_) => g,
+            _ => set_direct(GprValue::Unknown),
+        },
     }
 }
