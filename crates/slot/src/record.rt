@@ -80,6 +80,7 @@ fn put_known(words: &mut [u32], at: usize, g: Gpr)
     store4(words, at + 4, h.section, h.address, l.section, l.address);
 }
 
+#[tactic(auto, unfolding(crate::specs::Values::value_of))]
 pub fn register_at(words: &[u32], at: usize) -> Gpr
     requires { at + 8 ≤ length words.now }
     ensures { result ≡ register_at words.now at }
@@ -131,6 +132,7 @@ pub fn is_unset_at(words: &[u32], at: usize) -> bool
     (head == 0) & (right == 0)
 }
 
+#[tactic(auto, unfolding(crate::specs::Values::value_of))]
 pub fn compare_at(words: &[u32], at: usize) -> Cr
     requires { at + 8 ≤ length words.now }
     ensures { result ≡ compare_at words.now at }

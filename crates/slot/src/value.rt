@@ -69,6 +69,7 @@ pub fn numbers_of(v: GprValue) -> Numbers
 }
 
 // The value of a tag and numbers.
+#[tactic(auto, unfolding(crate::specs::Values::value_of))]
 pub fn value_of(tag: u32, a: u32, b: u32, c: u32) -> GprValue
     ensures { result ≡ value_of tag a b c }
 {
