@@ -69,8 +69,7 @@ fn fill(words: &mut [u32], down: bool, cells: &[u32]) -> usize
             section: 3,
             address: address(i, down),
         };
-        let r = stack::push(words, n, p, cells, Made::Same, true);
-        n = r.count;
+        n = stack::push(words, n, p, cells, Made::Same, true).unwrap_or(n);
     }
     n
 }
@@ -85,8 +84,7 @@ fn fill_states(words: &mut [u32], down: bool, s: VM) -> usize
             section: 3,
             address: address(i, down),
         };
-        let r = stack::push_state(words, n, p, s, true);
-        n = r.count;
+        n = stack::push_state(words, n, p, s, true).unwrap_or(n);
     }
     n
 }
@@ -103,8 +101,7 @@ fn churn(words: &mut [u32], n: usize, cells: &mut [u32]) -> usize
         }
         let p = stack::top_place(words, m);
         stack::top_cells(words, m, cells);
-        let r = stack::push(words, m - 1, p, cells, Made::Same, true);
-        m = r.count;
+        m = stack::push(words, m - 1, p, cells, Made::Same, true).unwrap_or(m - 1);
     }
     m
 }
@@ -121,8 +118,7 @@ fn churn_states(words: &mut [u32], n: usize) -> usize
         }
         let p = stack::top_place(words, m);
         let s = stack::top_state(words, m);
-        let r = stack::push_state(words, m - 1, p, s, true);
-        m = r.count;
+        m = stack::push_state(words, m - 1, p, s, true).unwrap_or(m - 1);
     }
     m
 }
