@@ -17,7 +17,7 @@ use vm::VM;
 // How many words a slot has.
 pub const SLOT_WORDS: usize = 330;
 
-// A value as a tag below 16 and three numbers.
+// A value as a tag below 16 and three numbers. Numbers and no enum: they are what stands in a slot's words.
 #[derive(Clone, Copy)]
 pub struct Numbers {
     pub tag: u32,
@@ -26,7 +26,7 @@ pub struct Numbers {
     pub c: u32,
 }
 
-// A place that may be missing: 1 and its numbers, or zeros.
+// A place that may be missing: 1 and its numbers, or zeros. Numbers and no Option: they are what stands in a slot's words.
 #[derive(Clone, Copy)]
 pub struct AddressNumbers {
     pub known: u32,

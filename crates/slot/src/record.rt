@@ -23,7 +23,8 @@ fn store4(words: &mut [u32], at: usize, w: u32, x: u32, y: u32, z: u32)
     words[at + 3] = z;
 }
 
-// Nothing is known of the register: the common case. The places first, since that order compiles to fewer instructions.
+// Nothing is known of the register: the common case. Not a derived ==, which would test the value first: the places first
+// compile to fewer instructions.
 fn is_blank(g: Gpr) -> bool
     ensures { result ≡ true → g ≡ blank }
 {

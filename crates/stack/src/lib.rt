@@ -1,4 +1,4 @@
-// A stack of waiting states in lent words; the caller keeps the count of held states and hands it in.
+// A stack of waiting states in lent words; the caller keeps the count of held states and hands it in, as C does: no struct holds both.
 // Words and count are a stack (`is_stack` tells); with count 0 the words may be anything. Slots stay where they are, a table orders them.
 #![tactic(auto)]
 
