@@ -1,6 +1,6 @@
 -- The loops' invariants: the words of the first records are put, and those records fit.
 use mathlib.Core.Path.{◌≡◌}
-use Prim.Native.Nat.{ℕ, ◌+◌, ◌-◌, ◌≤◌, ◌<◌}
+use Prim.Native.Nat.{ℕ, ◌+◌, ◌<◌}
 use lib.ListN.{length, get_or}
 use Rattle.vm.specs.Registers.{blank, no_cr}
 use Rattle.slot.specs.Fits.{FitsCr}

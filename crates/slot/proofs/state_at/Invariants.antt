@@ -1,6 +1,6 @@
 -- The loops' invariants: the first records of the local state are those that stand in the words, those after them say nothing.
 use mathlib.Core.Path.{◌≡◌}
-use Prim.Native.Nat.{ℕ, ◌+◌, ◌-◌, ◌*◌, ◌≤◌}
+use Prim.Native.Nat.{ℕ, ◌+◌, ◌*◌, ◌≤◌}
 use lib.ListN.{length, take, get_or}
 use Rattle.vm.specs.Registers.{blank, no_cr}
 use Rattle.slot.specs.Layout.{register_at, compare_at}

@@ -1,7 +1,7 @@
 -- The loop's invariant: the slots passed are well written.
 use mathlib.Core.Bool.{true}
 use mathlib.Core.Path.{◌≡◌}
-use Prim.Native.Nat.{ℕ, ◌-◌, ◌≤◌}
+use Prim.Native.Nat.{ℕ}
 use Rattle.search.specs.Every.{every}
 use Rattle.slot.specs.Layout.{is_slot}
 use Rattle.stack.specs.Stack.{slot_at, order_at}

@@ -1,6 +1,6 @@
 -- The loop's invariant: the numbers passed are low and new.
 use mathlib.Core.Bool.{Bool, ◌&&◌}
-use mathlib.Core.Path.{refl, sym, ◌∙◌}
+use mathlib.Core.Path.{sym, ◌∙◌}
 use Prim.Native.Nat.{ℕ}
 use native.Mathlib.Omega.{arith}
 use lib.Dec.{ltb}

@@ -1,7 +1,7 @@
 -- The loop's invariant: the numbers passed are low and new.
 use mathlib.Core.Bool.{true, ◌&&◌}
 use mathlib.Core.Path.{◌≡◌}
-use Prim.Native.Nat.{ℕ, ◌-◌, ◌≤◌}
+use Prim.Native.Nat.{ℕ}
 use lib.Dec.{ltb}
 use Rattle.search.specs.Every.{every}
 use Rattle.stack.specs.Stack.{order_at}
