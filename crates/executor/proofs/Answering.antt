@@ -14,10 +14,10 @@ use Rattle.lookups.specs.Code.{code_place}
 use Rattle.lookups.specs.declared.CodePlace.TheVariants as place
 use Rattle.vm.specs.declared.VM.{VM}
 use Rattle.visited.specs.Bits.{has_room}
+use Rattle.std.specs.Prelude.{Option, is_some, unwrap_or}
 use Rattle.stack.specs.Stack.{Entry, entries, held_at}
 use Rattle.stack.specs.Push as stack
 use Rattle.stack.specs.Push.{pushed_words}
-use Rattle.stack.specs.declared.Pushed.{Pushed}
 use Rattle.executor.specs.declared.Answer.{Answer}
 use Rattle.executor.specs.declared.Answer.TheVariants as answer
 use Rattle.executor.specs.declared.Phase.TheVariants as phase
@@ -99,24 +99,24 @@ module _ (im bs words : List ℕ) (n : ℕ) (v : List ℕ) (run : Execution) whe
 -- a push with room is taken, another is refused
 module _ (im : List ℕ) (d : ℕ) (words : List ℕ) (n : ℕ) (p : SectionAddress) (s : VM) (sorted : Bool)
     (fine : verdict_of im d words n phase.Idle p ≡ verdict.Lawful) (word : code_place im p ≡ place.Fine)
-    (r : Pushed) (words' : List ℕ) (pushed : stack.Pushes words n p s sorted r words') where
+    (r : Option ℕ) (words' : List ℕ) (pushed : stack.Pushes words n p s sorted r words') where
   abbrev PushedAs : Answer → Type 0
-  PushedAs a = PushesTo im d words n p s sorted (record { answer = a; count = r.count }) words'
+  PushedAs a = PushesTo im d words n p s sorted (record { answer = a; count = unwrap_or r n }) words'
 
-  push_is : (t : Bool) → r.taken ≡ t
+  push_is : (t : Bool) → is_some r ≡ t
       → push_call im d words n p s sorted ≡ pick t (pushes answer.Done (n + 1) (pushed_words words n p s sorted)) (pushes answer.StackFull n words)
   push_is t e =
       rw (fine, word)
       (ap (λ (b : Bool). pick b (pushes answer.Done (n + 1) (pushed_words words n p s sorted)) (pushes answer.StackFull n words)) (sym pushed.taken ∙ e))
 
-  pub push_done : r.taken ≡ true → PushedAs answer.Done
+  pub push_done : is_some r ≡ true → PushedAs answer.Done
   push_done e = record {
     result = rw (push_is true e, pushed.count ∙ ap (λ (b : Bool). pick b (n + 1) n) e);
     leaves = rw (push_is true e) (pushed.words ∙ ap (λ (b : Bool). pick b (pushed_words words n p s sorted) words) e);
     fits = λ z. pushed.fits e;
   }
 
-  pub push_full : r.taken ≡ false → PushedAs answer.StackFull
+  pub push_full : is_some r ≡ false → PushedAs answer.StackFull
   push_full e = record {
     result = rw (push_is false e, pushed.count ∙ ap (λ (b : Bool). pick b (n + 1) n) e);
     leaves = rw (push_is false e) (pushed.words ∙ ap (λ (b : Bool). pick b (pushed_words words n p s sorted) words) e);

@@ -14,10 +14,10 @@ use Rattle.image.specs.Rules.{sound}
 use Rattle.lookups.specs.Code.{in_code}
 use Rattle.vm.specs.declared.VM.{VM}
 use Rattle.slot.specs.Fits.{Fits}
+use Rattle.std.specs.Prelude.{Option, Some}
 use Rattle.stack.specs.Sort.{insert_by, insert_all, sort_by}
 use Rattle.stack.specs.Stack.{Entry, Stack, entries, entry_key, room}
 use Rattle.stack.specs.Push.{pushed_words, Pushes}
-use Rattle.stack.specs.declared.Pushed.{Pushed}
 use Rattle.stack.proofs.Stacks.{plain_push, sorted_push}
 use Rattle.executor.specs.declared.Answer.TheVariants as answer
 use Rattle.executor.specs.declared.Phase.{Phase}
@@ -91,8 +91,8 @@ module _ (im : List ℕ) (d : ℕ) (words : List ℕ) (n : ℕ) (p : SectionAddr
       × Stack (pushed_words words n p s t) (n + 1)
   means t = by t
     where
-      r : Pushed
-      r = record { taken = true; count = n + 1 }
+      r : Option ℕ
+      r = Some (n + 1)
 
       kept : (t : Bool) → Pushes words n p s t r (pushed_words words n p s t)
       kept t = record { taken = sym free; count = refl; words = refl; fits = λ e. fits }

@@ -134,20 +134,16 @@ pub fn push(
                 answer: Answer::Misaligned,
                 count: count,
             },
-            CodePlace::Fine => {
-                let pushed = stack::push_state(stack, count, p, s, sorted);
-                let n = pushed.count;
-                if pushed.taken {
-                    return Pushing {
-                        answer: Answer::Done,
-                        count: n,
-                    };
-                }
-                Pushing {
+            CodePlace::Fine => match stack::push_state(stack, count, p, s, sorted) {
+                Some(more) => Pushing {
+                    answer: Answer::Done,
+                    count: more,
+                },
+                None => Pushing {
                     answer: Answer::StackFull,
-                    count: n,
-                }
-            }
+                    count: count,
+                },
+            },
         },
     }
 }

@@ -38,11 +38,8 @@ fn fill(words: &mut [u32], s: VM) -> usize
     ensures { Stack words.new result }
 {
     let mut n: usize = 0;
-    let mut i: usize = 0;
-    while i < 3000 {
-        let r = stack::push_state(words, n, place(i), s, true);
-        n = r.count;
-        i = i + 1;
+    for i in 0..3000 {
+        n = stack::push_state(words, n, place(i), s, true).unwrap_or(n);
     }
     n
 }

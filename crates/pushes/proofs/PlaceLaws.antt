@@ -11,7 +11,7 @@ use Rattle.places.specs.declared.MaybeAddress.{MaybeAddress}
 use Rattle.places.specs.declared.MaybeAddress.TheVariants.{Nowhere}
 use Rattle.lookups.specs.Code.{code_place}
 use Rattle.vm.specs.declared.VM.{VM}
-use Rattle.stack.specs.declared.Pushed.{Pushed}
+use Rattle.std.specs.Prelude.{Option, is_some, unwrap_or}
 use Rattle.stack.specs.Stack.{Stack, room}
 use Rattle.stack.specs.Push.{Pushes}
 use Rattle.turns.specs.Turns.{push_at, push_each}
@@ -30,8 +30,8 @@ module _ (ws words : List ℕ) (n : ℕ) (q : SectionAddress) (s : VM) (st : Sta
       (record { piles = λ bs from upto buffer. piles_out ws bs from upto (room (length words)) refl st q s w; read = refl; not_read = refl })
 
   -- a word of code
-  pub pushed_word : (p : Pushed) (words' : List ℕ) → is_fine (code_place ws q) ≡ true → Pushes words n q s true p words' → length words' ≡ length words
-      → PushedAt ws words n q s words' (record { held = p.count; full = not p.taken; read = 0; not_read = 0 })
+  pub pushed_word : (p : Option ℕ) (words' : List ℕ) → is_fine (code_place ws q) ≡ true → Pushes words n q s true p words' → length words' ≡ length words
+      → PushedAt ws words n q s words' (record { held = unwrap_or p n; full = not (is_some p); read = 0; not_read = 0 })
   pushed_word p words' w d e = record {
     piles = λ bs from upto buffer. piles_push ws bs from upto (room (length words)) refl st q s w p words' d e;
     read = refl;

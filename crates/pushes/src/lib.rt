@@ -55,8 +55,8 @@ pub fn push_at(
     if is_word(im, q) {
         let p = stack::push(stack, count, q, cells, made, true);
         return Taken {
-            held: p.count,
-            full: !p.taken,
+            held: p.unwrap_or(count),
+            full: p.is_none(),
             read: 0,
             not_read: 0,
         };

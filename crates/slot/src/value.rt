@@ -8,20 +8,13 @@ use crate::{AddressNumbers, Numbers};
 use places::{MaybeAddress, RelocationTarget, SectionAddress};
 use vm::{GprValue, TableSize};
 
-// A byte is a word, and the caller learns that it is below 256.
-fn wide(k: u8) -> u32
-    ensures { (result ≡ k) × (k < 256) }
-{
-    k as u32
-}
-
 fn target_numbers(t: RelocationTarget, tag: u32, n: u32) -> Numbers
     requires { tag < 15 }
     ensures { (result ≡ target_numbers t tag n) × (result.tag < 16) }
 {
     match t {
         RelocationTarget::External => Numbers {
-            tag: tag,
+            tag,
             a: 0,
             b: 0,
             c: n,
@@ -55,7 +48,7 @@ pub fn numbers_of(v: GprValue) -> Numbers
         GprValue::Address(t) => target_numbers(t, 2, 0),
         GprValue::ComparisonResult(k) => Numbers {
             tag: 4,
-            a: wide(k),
+            a: u32::from(k),
             b: 0,
             c: 0,
         },
@@ -76,6 +69,7 @@ pub fn numbers_of(v: GprValue) -> Numbers
 }
 
 // The value of a tag and numbers.
+#[tactic(auto, unfolding(crate::specs::Values::value_of))]
 pub fn value_of(tag: u32, a: u32, b: u32, c: u32) -> GprValue
     ensures { result ≡ value_of tag a b c }
 {
@@ -136,10 +130,7 @@ pub fn maybe_of(known: u32, section: u32, address: u32) -> MaybeAddress
     ensures { result ≡ maybe_of known section address }
 {
     if known == 1 {
-        MaybeAddress::At(SectionAddress {
-            section: section,
-            address: address,
-        })
+        MaybeAddress::At(SectionAddress { section, address })
     } else {
         MaybeAddress::Nowhere
     }
@@ -149,5 +140,5 @@ pub fn maybe_of(known: u32, section: u32, address: u32) -> MaybeAddress
 pub fn bit_of(b: bool) -> u32
     ensures { (result ≡ bit_of b) × (result ≤ 1) }
 {
-    if b { 1 } else { 0 }
+    u32::from(b)
 }
