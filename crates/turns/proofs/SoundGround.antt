@@ -84,7 +84,7 @@ guessed_few : (ws bs : List ℕ) (p from : SectionAddress) (upto : MaybeAddress)
 unfolding guessed_table
 guessed_few ws bs p from upto room = read_few _ room
 
-table_few : (ws bs : List ℕ) (p : SectionAddress) (n : ℕ) (from : SectionAddress) (upto : MaybeAddress) (room : ℕ)
+pub table_few : (ws bs : List ℕ) (p : SectionAddress) (n : ℕ) (from : SectionAddress) (upto : MaybeAddress) (room : ℕ)
     → count_of (table_in ws bs p n from upto room).table ≤ room
 unfolding table_in
 table_few ws bs p n from upto room =

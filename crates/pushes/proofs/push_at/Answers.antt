@@ -3,7 +3,6 @@ use mathlib.Core.Path.{sym, ◌∙◌}
 use Rattle.pushes.proofs.PlaceLaws.{pushed_out, pushed_word}
 use Rattle.cells.specs.Cells.{state_of}
 use Rattle.clones.specs.Clones.{made_of}
-use borrow.Author.Rules.{rules}
 use Rattle.pushes.proofs.push_at.Goals as goal
 
 pub returns-then-is_word : goal.returns-then-is_word
