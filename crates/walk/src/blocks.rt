@@ -100,8 +100,7 @@ pub fn run_block(
         if is_ended(l) {
             visited::mark_run(map, w, many);
             return Ended {
-                leaves: false,
-                leave: l,
+                leave: None,
                 at,
                 stepped: stepped + many as u64,
                 begun,
@@ -112,8 +111,7 @@ pub fn run_block(
         match jump_in(l, at.section) {
             MaybeAddress::Nowhere => {
                 return Ended {
-                    leaves: true,
-                    leave: l,
+                    leave: Some(l),
                     at,
                     stepped,
                     begun,
@@ -126,8 +124,7 @@ pub fn run_block(
                     continue;
                 }
                 return Ended {
-                    leaves: false,
-                    leave: l,
+                    leave: None,
                     at,
                     stepped,
                     begun,
