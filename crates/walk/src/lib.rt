@@ -107,7 +107,7 @@ pub fn walk(
         }
         let p = stack::top_place(stack, held);
         if visited::contains(map, word_number(im, p)) {
-            held = held - 1;
+            held -= 1;
             continue;
         }
         stack::top_cells(stack, held, &mut state);
