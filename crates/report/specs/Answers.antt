@@ -28,11 +28,14 @@ write_leaves im n ws out =
     judged_first im n ws out out
     (pick (leb (length (report_of im ws)) (length out)) (report_of im ws ++ drop (length (report_of im ws)) out) (replicate (length out) 0))
 
+abbrev pub write_error : WriteError → ℕ
+write_error write.BrokenImage = 1
+write_error write.SmallMap = 4
+write_error write.NoRoom = 10
+
 abbrev pub write_number : Result ℕ WriteError → ℕ
-write_number (Err write.BrokenImage) = 1
-write_number (Err write.SmallMap) = 4
-write_number (Err write.NoRoom) = 10
 write_number (Ok k) = 0
+write_number (Err e) = write_error e
 
 -- reading: 1, 4, 13, or done
 abbrev pub read_answer : List ℕ → ℕ → List ℕ → List ℕ → Result ⊤ ReadError
@@ -43,8 +46,11 @@ read_answer im n s ws =
 abbrev pub read_leaves : List ℕ → ℕ → List ℕ → List ℕ → List ℕ
 read_leaves im n s ws = judged_first im n ws ws ws (on_place (read_report im s).end (λ e. map_of im ws (read_report im s).runs) ws)
 
+abbrev pub read_error : ReadError → ℕ
+read_error read.BrokenImage = 1
+read_error read.SmallMap = 4
+read_error read.NoReport = 13
+
 abbrev pub read_number : Result ⊤ ReadError → ℕ
-read_number (Err read.BrokenImage) = 1
-read_number (Err read.SmallMap) = 4
-read_number (Err read.NoReport) = 13
 read_number (Ok u) = 0
+read_number (Err e) = read_error e

@@ -4,7 +4,7 @@
 
 ghost use Rattle.std.specs.Prelude.{◌≡◌, length};
 ghost use Rattle.image.specs.Rules.{sound};
-ghost use Rattle.report.specs.Answers.{write_answer, write_leaves, read_answer, read_leaves};
+ghost use Rattle.report.specs.Answers.{write_answer, write_leaves, write_error, read_answer, read_leaves, read_error};
 
 use image::Judged;
 
@@ -41,6 +41,30 @@ pub enum ReadError {
     BrokenImage,
     SmallMap,
     NoReport,
+}
+
+impl From<WriteError> for u32 {
+    ghost from_gives = { λ e n. n ≡ write_error e };
+
+    fn from(e: WriteError) -> u32 {
+        match e {
+            WriteError::BrokenImage => 1,
+            WriteError::SmallMap => 4,
+            WriteError::NoRoom => 10,
+        }
+    }
+}
+
+impl From<ReadError> for u32 {
+    ghost from_gives = { λ e n. n ≡ read_error e };
+
+    fn from(e: ReadError) -> u32 {
+        match e {
+            ReadError::BrokenImage => 1,
+            ReadError::SmallMap => 4,
+            ReadError::NoReport => 13,
+        }
+    }
 }
 
 // Whether the image is sound.
