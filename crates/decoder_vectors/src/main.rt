@@ -32,7 +32,7 @@ fn alike(kind: usize, w: u32, a: u32, b: u32) -> bool {
     }
 }
 
-fn is_alike(kind: usize, record: &[u8; RECORD]) -> bool {
+fn is_alike(kind: usize, record: &[u8]) -> bool {
     alike(
         kind,
         word_at(record, 4),
@@ -43,11 +43,8 @@ fn is_alike(kind: usize, record: &[u8; RECORD]) -> bool {
 
 fn print_all(rt: &impl Print, records: &[u8]) -> io::Result<()> {
     for kind in 0..KINDS {
-        let Tally { asked, alike } = vectors::count_kind(
-            records,
-            kind,
-            |r: &[u8; RECORD]| is_alike(kind, r),
-        );
+        let t = vectors::count_kind::<RECORD, _>(records, kind, |r: &[u8]| is_alike(kind, r));
+        let Tally { asked, alike } = t;
         println!(rt; "{kind} asked {asked} alike {alike}")?;
     }
     Ok(())

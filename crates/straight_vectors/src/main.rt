@@ -96,14 +96,17 @@ fn step_in_image(record: &[u8; RECORD]) -> Stepped {
     )
 }
 
-fn is_alike(record: &[u8; RECORD]) -> bool {
+fn is_alike(bytes: &[u8]) -> bool {
+    let Some(record) = bytes.first_chunk::<RECORD>() else {
+        return false;
+    };
     let t = step_in_image(record);
     matches!(t.result, StepResult::Continue) && is_after(t.vm, record)
 }
 
 fn print_all(rt: &impl Print, records: &[u8]) -> io::Result<()> {
     for (class, name) in NAMES.iter().enumerate() {
-        let Tally { asked, alike } = vectors::count_kind(records, class, is_alike);
+        let Tally { asked, alike } = vectors::count_kind::<RECORD, _>(records, class, is_alike);
         println!(rt; "{name}: {asked} words, {alike} alike")?;
     }
     Ok(())

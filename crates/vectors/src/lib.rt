@@ -11,12 +11,8 @@ pub struct Tally {
 }
 
 // Counts the records of N bytes of one kind, which is their first word.
-pub fn count_kind<const N: usize, F: Fn(&[u8; N]) -> bool>(
-    s: &[u8],
-    kind: usize,
-    is_alike: F,
-) -> Tally
-    requires size { 0 < N }
+pub fn count_kind<const N: usize, F: Fn(&[u8]) -> bool>(s: &[u8], kind: usize, is_alike: F) -> Tally
+    requires size { (0 < N) × (N < 65536) }
     requires callable { F.IsAlwaysCallable is_alike }
     ensures asked { result.asked ≤ length s.now / N }
     ensures alike { result.alike ≤ result.asked }

@@ -46,7 +46,7 @@ fn answer(what: usize, w: u32, a: u32, b: u32) -> u32 {
     }
 }
 
-fn is_alike(what: usize, record: &[u8; RECORD]) -> bool {
+fn is_alike(what: usize, record: &[u8]) -> bool {
     let w = word_at(record, 4);
     let a = word_at(record, 8);
     let b = word_at(record, 12);
@@ -55,11 +55,8 @@ fn is_alike(what: usize, record: &[u8; RECORD]) -> bool {
 
 fn print_all(rt: &impl Print, records: &[u8]) -> io::Result<()> {
     for what in 0..KINDS {
-        let Tally { asked, alike } = vectors::count_kind(
-            records,
-            what,
-            |r: &[u8; RECORD]| is_alike(what, r),
-        );
+        let t = vectors::count_kind::<RECORD, _>(records, what, |r: &[u8]| is_alike(what, r));
+        let Tally { asked, alike } = t;
         println!(rt; "{what} asked {asked} alike {alike}")?;
     }
     Ok(())
