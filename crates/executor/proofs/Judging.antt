@@ -1,7 +1,9 @@
 -- What a judgement says: a sound image, a stack, words of code.
 -- Assumes nothing.
 use Prim.Native.Nat.{ℕ, zero, suc, ◌+◌, ◌-◌, ◌<◌, ◌≤◌}
-use mathlib.Core.Path.{◌≡◌, refl, ◌∙◌}
+use mathlib.Core.Path.{◌≡◌, refl, ap, ◌∙◌}
+use Rattle.std.specs.Prelude.{Result, Ok, Err, IsErr, IsErrAnd, ⊤}
+use Rattle.std.specs.Result.{result_and}
 use mathlib.Core.Bool.{Bool, true, false, ◌&&◌}
 use mathlib.Core.List.{List}
 use native.Mathlib.Omega.{arith}
@@ -25,17 +27,35 @@ use Rattle.stack.specs.Valid.{valid_stack}
 use Rattle.stack.proofs.ValidLaws.{valid_stack_lem, stack_valid}
 use Rattle.stack.proofs.Stacks.{pop_stack}
 use Rattle.executor.specs.declared.Phase.{Phase}
-use Rattle.executor.specs.declared.Verdict.TheVariants as verdict
-use Rattle.executor.specs.Judge.{on_place, is_word, is_placed, all_words, lawful, verdict_of}
+use Rattle.executor.specs.declared.Refusal.{Refusal}
+use Rattle.executor.specs.declared.Refusal.TheVariants as refusal
+use Rattle.executor.specs.Judge.{test, on_place, is_word, is_placed, all_words, lawful, verdict_of}
 use Rattle.executor.proofs.Waiting.{all_held}
 
+-- what a `?` hands on is the refusal that it met
+pub handed_on : {A : Type 0} (r : Result A Refusal) (why : Refusal) → IsErr r × IsErrAnd r (λ w. w ≡ why) → r ≡ Err why
+handed_on (Err w) why h = ap Err h.1
+handed_on (Ok a) why h = elim (h.1) [ ]
+
+-- a refused judgement, by which of the two refuses
+pub first_refused : {A : Type 0} (a : Result ⊤ Refusal) (b : Result A Refusal) (why : Refusal) → a ≡ Err why → result_and a b ≡ Err why
+first_refused a b why e = ap (λ (x : Result ⊤ Refusal). result_and x b) e
+
+pub then_refused : {A : Type 0} (a : Result ⊤ Refusal) (b : Result A Refusal) (why : Refusal) → a ≡ Ok tt → b ≡ Err why → result_and a b ≡ Err why
+then_refused a b why e f = ap (λ (x : Result ⊤ Refusal). result_and x b) e ∙ f
+
+-- a test that refuses nothing has passed
+pub tested : (t : Bool) (why : Refusal) → test t why ≡ Ok tt → t ≡ true
+tested true why e = refl
+tested false why e = let z : ◌≡◌ {A = ℕ} 0 1 = cc in absurd (omega arith)
+
 -- the two tests of a judgement
-both_passed : (s t : Bool) → pick s (pick t verdict.Lawful verdict.BadStack) verdict.BrokenImage ≡ verdict.Lawful → (s ≡ true) × (t ≡ true)
+both_passed : (s t : Bool) → result_and (test s refusal.BrokenImage) (test t refusal.BadStack) ≡ Ok tt → (s ≡ true) × (t ≡ true)
 both_passed true true e = (refl, refl)
 both_passed true false e = let z : ◌≡◌ {A = ℕ} 0 1 = cc in absurd (omega arith)
 both_passed false t e = let z : ◌≡◌ {A = ℕ} 0 1 = cc in absurd (omega arith)
 
-pub lawful_says : (im : List ℕ) (d : ℕ) (words : List ℕ) (n : ℕ) (ph : Phase) (p : SectionAddress) → verdict_of im d words n ph p ≡ verdict.Lawful
+pub lawful_says : (im : List ℕ) (d : ℕ) (words : List ℕ) (n : ℕ) (ph : Phase) (p : SectionAddress) → verdict_of im d words n ph p ≡ Ok tt
     → (sound im d ≡ true) × (lawful im words n ph p ≡ true)
 lawful_says im d words n ph p e = both_passed (sound im d) (lawful im words n ph p) e
 
@@ -49,7 +69,7 @@ pub record Judged (im : List ℕ) (d : ℕ) (words : List ℕ) (n : ℕ) (ph : P
   pub at_words : all_words im (entries words n) ≡ true
   pub placed : is_placed im ph p ≡ true
 
-pub judged : (im : List ℕ) (d : ℕ) (words : List ℕ) (n : ℕ) (ph : Phase) (p : SectionAddress) → verdict_of im d words n ph p ≡ verdict.Lawful → Judged im d words n ph p
+pub judged : (im : List ℕ) (d : ℕ) (words : List ℕ) (n : ℕ) (ph : Phase) (p : SectionAddress) → verdict_of im d words n ph p ≡ Ok tt → Judged im d words n ph p
 judged im d words n ph p e =
     let both = lawful_says im d words n ph p e in
     let tables = tables_of_sound im d both.0 in
@@ -66,7 +86,7 @@ judged im d words n ph p e =
 
 -- and back
 pub lawful_by : (im : List ℕ) (d : ℕ) (words : List ℕ) (n : ℕ) (ph : Phase) (p : SectionAddress)
-    → sound im d ≡ true → Stack words n → all_words im (entries words n) ≡ true → is_placed im ph p ≡ true → verdict_of im d words n ph p ≡ verdict.Lawful
+    → sound im d ≡ true → Stack words n → all_words im (entries words n) ≡ true → is_placed im ph p ≡ true → verdict_of im d words n ph p ≡ Ok tt
 lawful_by im d words n ph p s st w h = rw (s, stack_valid words n st, w, h)
 
 -- a word is a fine place, and in code
