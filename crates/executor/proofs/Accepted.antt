@@ -39,8 +39,8 @@ passed k false ts e = absurd (let z : ⊥ = omega arith in z)
 
 -- by the phase
 pub waiting : (ph : Phase) → waits ph ≡ true → ph ≡ phase.Waiting
-waiting phase.Idle e = let z : ◌≡◌ {A = ℕ} 0 1 = cc in absurd (omega arith)
-waiting phase.Running e = let z : ◌≡◌ {A = ℕ} 0 1 = cc in absurd (omega arith)
+waiting phase.Idle e = absurd (cc)
+waiting phase.Running e = absurd (cc)
 waiting phase.Waiting e = refl
 
 module _ (im bs words : List ℕ) (n : ℕ) (v : List ℕ) (run : Execution) where

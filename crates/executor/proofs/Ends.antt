@@ -90,7 +90,7 @@ module _ (im bs words : List ℕ) (k : Kept) (f : Fit im bs words k.count k.map 
   next_falls : (ph : Phase) → k.run.phase ≡ ph → not (waits ph) ≡ true → FallsTo (next_of im bs standing_here)
   next_falls phase.Idle e free = became (next_of im bs standing_here) (popped im bs standing_here) (rw e) (pop_falls (find im k.map words k.count))
   next_falls phase.Running e free = became (next_of im bs standing_here) (resumed im bs standing_here) (rw e) (run_falls e (is_word im at) refl)
-  next_falls phase.Waiting e free = let z : ◌≡◌ {A = ℕ} 0 1 = cc in absurd (omega arith)
+  next_falls phase.Waiting e free = absurd (cc)
 
 -- replying
 module _ (im bs words : List ℕ) (k : Kept) (s : VM) (f : Fit im bs words k.count k.map (with_state k.run s)) (waits-now : k.run.phase ≡ phase.Waiting) where
@@ -148,8 +148,8 @@ module _ (im bs words : List ℕ) where
   -- what is over stays so
   over_idle : (ph : Phase) (n : ℕ) → on_phase ph (eqb n 0) false false ≡ true → (ph ≡ phase.Idle) × (n ≡ 0)
   over_idle phase.Idle n e = (refl, eqb-true n 0 e)
-  over_idle phase.Running n e = let z : ◌≡◌ {A = ℕ} 0 1 = cc in absurd (omega arith)
-  over_idle phase.Waiting n e = let z : ◌≡◌ {A = ℕ} 0 1 = cc in absurd (omega arith)
+  over_idle phase.Running n e = absurd (cc)
+  over_idle phase.Waiting n e = absurd (cc)
 
   pub over_stays : (k l : Kept) → Call im bs words k l → is_over k ≡ true → is_over l ≡ true
   over_stays k _ (asked e) o =
@@ -165,8 +165,7 @@ module _ (im bs words : List ℕ) where
       let i = over_idle k.run.phase k.count o in
       let w = waiting k.run.phase a.1 in
       let z : phase.Idle ≡ phase.Waiting = sym i.0 ∙ w in
-      let zero_one : ◌≡◌ {A = ℕ} 0 1 = cc in
-      absurd (omega arith)
+      absurd (cc)
 
   over_on : (n : ℕ) (k l : Kept) → Calls im bs words n k l → is_over k ≡ true → is_over l ≡ true
   over_on n k l here o = o

@@ -1,14 +1,13 @@
 -- What a judgement says: a sound image, a stack, words of code.
 -- Assumes nothing.
 use Prim.Native.Nat.{ℕ, zero, suc, ◌+◌, ◌-◌, ◌<◌, ◌≤◌}
-use mathlib.Core.Path.{◌≡◌, refl, ap, ◌∙◌}
-use Rattle.std.specs.Prelude.{Result, Ok, Err, IsErr, IsErrAnd, ⊤}
+use mathlib.Core.Path.{◌≡◌, refl, ◌∙◌}
+use Rattle.std.specs.Prelude.{Ok}
 use Rattle.std.specs.Result.{result_and}
 use mathlib.Core.Bool.{Bool, true, false, ◌&&◌}
 use mathlib.Core.List.{List}
 use native.Mathlib.Omega.{arith}
 use lib.ListN.{length}
-use Rattle.words.specs.Choice.{pick}
 use Rattle.words.specs.Bytes.{be32}
 use Rattle.places.specs.declared.SectionAddress.{SectionAddress}
 use Rattle.image.specs.Laid.{Laid}
@@ -32,28 +31,16 @@ use Rattle.executor.specs.declared.Refusal.TheVariants as refusal
 use Rattle.executor.specs.Judge.{test, on_place, is_word, is_placed, all_words, lawful, verdict_of}
 use Rattle.executor.proofs.Waiting.{all_held}
 
--- what a `?` hands on is the refusal that it met
-pub handed_on : {A : Type 0} (r : Result A Refusal) (why : Refusal) → IsErr r × IsErrAnd r (λ w. w ≡ why) → r ≡ Err why
-handed_on (Err w) why h = ap Err h.1
-handed_on (Ok a) why h = elim (h.1) [ ]
-
--- a refused judgement, by which of the two refuses
-pub first_refused : {A : Type 0} (a : Result ⊤ Refusal) (b : Result A Refusal) (why : Refusal) → a ≡ Err why → result_and a b ≡ Err why
-first_refused a b why e = ap (λ (x : Result ⊤ Refusal). result_and x b) e
-
-pub then_refused : {A : Type 0} (a : Result ⊤ Refusal) (b : Result A Refusal) (why : Refusal) → a ≡ Ok tt → b ≡ Err why → result_and a b ≡ Err why
-then_refused a b why e f = ap (λ (x : Result ⊤ Refusal). result_and x b) e ∙ f
-
 -- a test that refuses nothing has passed
 pub tested : (t : Bool) (why : Refusal) → test t why ≡ Ok tt → t ≡ true
 tested true why e = refl
-tested false why e = let z : ◌≡◌ {A = ℕ} 0 1 = cc in absurd (omega arith)
+tested false why e = absurd (cc)
 
 -- the two tests of a judgement
 both_passed : (s t : Bool) → result_and (test s refusal.BrokenImage) (test t refusal.BadStack) ≡ Ok tt → (s ≡ true) × (t ≡ true)
 both_passed true true e = (refl, refl)
-both_passed true false e = let z : ◌≡◌ {A = ℕ} 0 1 = cc in absurd (omega arith)
-both_passed false t e = let z : ◌≡◌ {A = ℕ} 0 1 = cc in absurd (omega arith)
+both_passed true false e = absurd (cc)
+both_passed false t e = absurd (cc)
 
 pub lawful_says : (im : List ℕ) (d : ℕ) (words : List ℕ) (n : ℕ) (ph : Phase) (p : SectionAddress) → verdict_of im d words n ph p ≡ Ok tt
     → (sound im d ≡ true) × (lawful im words n ph p ≡ true)
@@ -91,8 +78,8 @@ lawful_by im d words n ph p s st w h = rw (s, stack_valid words n st, w, h)
 
 -- a word is a fine place, and in code
 fine : (x : CodePlace) → on_place x false false true ≡ true → x ≡ place.Fine
-fine place.NotCode e = let z : ◌≡◌ {A = ℕ} 0 1 = cc in absurd (omega arith)
-fine place.Misaligned e = let z : ◌≡◌ {A = ℕ} 0 1 = cc in absurd (omega arith)
+fine place.NotCode e = absurd (cc)
+fine place.Misaligned e = absurd (cc)
 fine place.Fine e = refl
 
 pub word_fine : (im : List ℕ) (p : SectionAddress) → is_word im p ≡ true → code_place im p ≡ place.Fine

@@ -82,7 +82,7 @@ module _ (im bs words : List ℕ) where
     next_fit : (ph : Phase) → k.run.phase ≡ ph → not (waits ph) ≡ true → FitKept (kept_by (next_of im bs here))
     next_fit phase.Idle e free = became (next_of im bs here) (popped im bs here) (rw e) (pop_fit (find im k.map words k.count))
     next_fit phase.Running e free = became (next_of im bs here) (resumed im bs here) (rw e) (run_fit (is_word im k.run.at) refl)
-    next_fit phase.Waiting e free = let z : ◌≡◌ {A = ℕ} 0 1 = cc in absurd (omega arith)
+    next_fit phase.Waiting e free = absurd (cc)
 
   -- a reply: nothing under way, or a run at a word or its section's end
   module _ (k : Kept) (s : VM) (f : Fit im bs words k.count k.map (with_state k.run s)) (waits-now : k.run.phase ≡ phase.Waiting) where

@@ -108,6 +108,13 @@ handed_with r n = on_answer r.outcome Err (λ s. Ok (record { step = s; run = r.
 abbrev pub handed_by : Nexted → Result Handed Refusal
 handed_by r = handed_with r (length r.then.stack)
 
+-- that answer, and the visited words then
+abbrev pub AnsweredWith : Nexted → ℕ → Result Handed Refusal → List ℕ → Type 0
+AnsweredWith q n r v = (r ≡ handed_with q n) × (v ≡ q.then.map)
+
+abbrev pub AnsweredBy : Nexted → Result Handed Refusal → List ℕ → Type 0
+AnsweredBy q r v = AnsweredWith q (length q.then.stack) r v
+
 -- r states are left where visited ones are taken off the top of n
 pub record Tops (im v words : List ℕ) (n r : ℕ) : Type 0 where
   pub within : r ≤ n

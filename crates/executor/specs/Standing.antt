@@ -4,6 +4,7 @@ use Rattle.std.specs.Prelude.{ℕ, Bool, List, [], ◌∷◌, Result, Ok, Err}
 use Rattle.words.specs.Choice.{pick}
 use Rattle.places.specs.declared.SectionAddress.{SectionAddress}
 use Rattle.vm.specs.declared.VM.{VM}
+use Rattle.vm.specs.States.{fresh}
 use Rattle.stack.specs.Stack.{Entry}
 use Rattle.executor.specs.declared.Phase.{Phase}
 use Rattle.executor.specs.declared.Phase.TheVariants as phase
@@ -26,6 +27,10 @@ execution ph at start s = record { phase = ph; at = at; block_start = start; vm 
 -- nothing is under way any more: place and state stay behind, and no call reads them
 abbrev pub dropped : Execution → Execution
 dropped run = execution phase.Idle run.at run.block_start run.vm
+
+-- nothing is under way yet, and all is Unknown
+abbrev pub at_rest : Execution
+at_rest = execution phase.Idle (record { section = 0; address = 0 }) (record { section = 0; address = 0 }) fresh
 
 -- by cases: nothing under way, running, waiting
 abbrev pub on_phase : {B : Type 0} → Phase → B → B → B → B

@@ -9,8 +9,8 @@ use crate::stepping::drop;
 use crate::{ExecCbResult, Execution, Phase, Refusal};
 use places::SectionAddress;
 
-// Continue runs on at the next word, visited or not; a Jump at its word, or drops the run where that was visited; EndBlock and End
-// drop it. A Jump's place is judged: OtherSection (6), NotCode (2), Misaligned (3).
+// Continue runs on at the next word, visited or not; a Jump at its word, or drops the run where that was visited;
+// EndBlock and End drop it. A Jump's place is judged: OtherSection (6), NotCode (2), Misaligned (3).
 pub fn follow(
     im: &[u32],
     map: &[u32],

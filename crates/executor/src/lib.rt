@@ -1,5 +1,6 @@
-// Branched execution, one instruction at a time: executor.rs with its callback turned into two calls, `next` and `reply`.
-// The caller keeps the stack's words and count, the visited map and the execution, and hands them to each call: any will do.
+// Branched execution, one instruction at a time: executor.rs with its callback turned into two calls, `next` and
+// `reply`. The caller keeps the stack's words and count, the visited map and the execution, and hands them to each
+// call: any will do. They stay parameters of their own, as a call lends some to read and some to write.
 #![tactic(auto)]
 
 pub mod following;
@@ -7,8 +8,8 @@ pub mod judge;
 pub mod stepping;
 
 ghost use Rattle.std.specs.Prelude.{◌≡◌, length};
-ghost use Rattle.executor.specs.Standing.{refusal_number};
-ghost use Rattle.executor.specs.Next.{next_call, handed_by};
+ghost use Rattle.executor.specs.Standing.{at_rest, refusal_number};
+ghost use Rattle.executor.specs.Next.{next_call, AnsweredBy};
 ghost use Rattle.executor.specs.Reply.{reply_call};
 ghost use Rattle.executor.specs.Push.{PushesTo};
 ghost use Rattle.executor.specs.Visits.{visit_call};
@@ -33,6 +34,24 @@ pub struct Execution {
     pub at: SectionAddress,
     pub block_start: SectionAddress,
     pub vm: VM,
+}
+
+impl Execution {
+    // Nothing is under way.
+    pub fn idle() -> Execution
+        ensures { result ≡ at_rest }
+    {
+        let nowhere = SectionAddress {
+            section: 0,
+            address: 0,
+        };
+        Execution {
+            phase: Phase::Idle,
+            at: nowhere,
+            block_start: nowhere,
+            vm: vm::state::new(),
+        }
+    }
 }
 
 // Why a call is refused.
@@ -66,8 +85,8 @@ impl From<Refusal> for u32 {
     }
 }
 
-// What `next` came to: the stepped word, whose place and state after it stand in `run`, or None for an end (nothing waits any
-// more, or the run passed its section's end). `count` states wait then.
+// What `next` came to: the stepped word, whose place and the state after it stand in `run`, or None for an end (nothing
+// waits any more, or the run passed its section's end). `count` states wait then.
 #[derive(Clone, Copy)]
 pub struct Handed {
     pub step: Option<Stepped>,
@@ -84,8 +103,8 @@ pub enum ExecCbResult {
     End,
 }
 
-// One state more on the stack, on top or, sorted, in its place: how many wait then. Refuses, touching nothing, in this order:
-// BrokenImage (1), BadStack (12), NotCode (2), Misaligned (3), StackFull (5).
+// One state more on the stack, on top or, sorted, in its place: how many wait then. Refuses, touching nothing, in this
+// order: BrokenImage (1), BadStack (12), NotCode (2), Misaligned (3), StackFull (5).
 pub fn push(
     im: &[u32],
     data: &[u8],
@@ -108,8 +127,8 @@ pub fn push(
 }
 
 // The next word of a run, or of the highest unvisited state on the stack: marked, stepped, and waiting for a reply.
-// Refuses, touching nothing, in this order: BrokenImage (1), BadStack (12), SmallMap (4: fewer than W bits), OutOfTurn (11:
-// an instruction waits). An end leaves an empty stack, or after a run past its section's end the stack as it was.
+// Refuses, touching nothing, in this order: BrokenImage (1), BadStack (12), SmallMap (4: fewer than W bits), OutOfTurn
+// (11: an instruction waits). An end leaves an empty stack, or after a run past its section's end the stack as it was.
 pub fn next(
     im: &[u32],
     data: &[u8],
@@ -118,7 +137,7 @@ pub fn next(
     count: usize,
     run: Execution,
 ) -> Result<Handed, Refusal>
-    ensures { (result ≡ handed_by (next_call im.now «data».now stack.now count map.old run)) × (map.new ≡ (next_call im.now «data».now stack.now count map.old run).then.map) }
+    ensures { AnsweredBy (next_call im.now «data».now stack.now count map.old run) result map.new }
 {
     judge(im, data, stack, count, run.phase, run.at)?;
     require_room(im, map)?;
@@ -129,9 +148,9 @@ pub fn next(
     }
 }
 
-// What is under way after the caller's wish for the waiting instruction, whose state the caller may have changed. Refuses,
-// with the instruction still waiting, in this order: BrokenImage (1), BadStack (12), SmallMap (4), OutOfTurn (11: none
-// waits), and a Jump with OtherSection (6), NotCode (2), Misaligned (3).
+// What is under way after the caller's wish for the waiting instruction, whose state the caller may have changed.
+// Refuses, with the instruction still waiting, in this order: BrokenImage (1), BadStack (12), SmallMap (4), OutOfTurn
+// (11: none waits), and a Jump with OtherSection (6), NotCode (2), Misaligned (3).
 pub fn reply(
     im: &[u32],
     data: &[u8],
@@ -151,7 +170,8 @@ pub fn reply(
     }
 }
 
-// Whether the word at a place was visited. Refuses, in this order: BrokenImage (1), SmallMap (4), NotCode (2), Misaligned (3).
+// Whether the word at a place was visited. Refuses, in this order: BrokenImage (1), SmallMap (4), NotCode (2),
+// Misaligned (3).
 pub fn visited(im: &[u32], data: &[u8], map: &[u32], p: SectionAddress) -> Result<bool, Refusal>
     ensures { result ≡ visit_call im.now (length «data».now) map.now p }
 {

@@ -5,7 +5,7 @@ ghost use Rattle.words.specs.Choice.{pick};
 ghost use Rattle.image.specs.Rules.{tables_sound, data_inside};
 ghost use Rattle.stack.specs.Stack.{Stack, entries};
 ghost use Rattle.executor.specs.Judge.{is_word, all_words};
-ghost use Rattle.executor.specs.Next.{Tops, is_branch, ended_at, stepped_at, resumed, popped, handed_with, handed_by};
+ghost use Rattle.executor.specs.Next.{Tops, is_branch, ended_at, stepped_at, resumed, popped, handed_with, AnsweredWith, AnsweredBy};
 ghost use Rattle.executor.specs.Standing.{standing, dropped};
 
 use crate::judge::is_word;
@@ -58,7 +58,7 @@ fn step_at(
     s: VM,
 ) -> Handed
     requires { (tables_sound im.now ≡ true) × (data_inside im.now (length bytes.now) ≡ true) × (is_word im.now at ≡ true) }
-    ensures { (Ok result ≡ handed_with (stepped_at im.now bytes.now [] map.old at start s) count) × (map.new ≡ (stepped_at im.now bytes.now [] map.old at start s).then.map) }
+    ensures { AnsweredWith (stepped_at im.now bytes.now [] map.old at start s) count (Ok result) map.new }
 {
     visited::insert(map, lookups::word_number(im, at));
     let stepped = step::done::step_word(im, at, lookups::code_word(im, bytes, at), s);
@@ -77,7 +77,7 @@ fn step_at(
 // A run goes on at its word; past its section's end it is dropped, and nothing is popped.
 pub fn resume(im: &[u32], bytes: &[u8], map: &mut [u32], count: usize, run: Execution) -> Handed
     requires { (tables_sound im.now ≡ true) × (data_inside im.now (length bytes.now) ≡ true) }
-    ensures { (Ok result ≡ handed_with (resumed im.now bytes.now (standing [] map.old run)) count) × (map.new ≡ (resumed im.now bytes.now (standing [] map.old run)).then.map) }
+    ensures { AnsweredWith (resumed im.now bytes.now (standing [] map.old run)) count (Ok result) map.new }
 {
     if is_word(im, run.at) {
         return step_at(im, bytes, map, count, run.at, run.block_start, run.vm);
@@ -109,7 +109,7 @@ pub fn pop(
     run: Execution,
 ) -> Handed
     requires { (tables_sound im.now ≡ true) × (data_inside im.now (length bytes.now) ≡ true) × Stack stack.now count × (all_words im.now (entries stack.now count) ≡ true) }
-    ensures { (Ok result ≡ handed_by (popped im.now bytes.now (standing (entries stack.now count) map.old run))) × (map.new ≡ (popped im.now bytes.now (standing (entries stack.now count) map.old run)).then.map) }
+    ensures { AnsweredBy (popped im.now bytes.now (standing (entries stack.now count) map.old run)) (Ok result) map.new }
 {
     let n = highest(im, map, stack, count);
     if n == 0 {
