@@ -17,7 +17,7 @@ const MOST_RECORDS: usize = 100000000;
 fn answer(kind: u32, p: &[u32], im: &[u32], data: &[u8], line: &mut [u32]) -> usize {
     match kind {
         1 => file::judged(im, data, line),
-        9 => scripts::script(p, im, data, line),
+        9 => scripts::play(p, im, data, line),
         _ => 0,
     }
 }
@@ -33,14 +33,11 @@ fn answered(
     bytes: usize,
     line: &mut [u32],
 ) -> usize {
-    if n <= payload.len() {
-        if words <= im.len() {
-            if bytes <= data.len() {
-                return answer(kind, &payload[..n], &im[..words], &data[..bytes], line);
-            }
-        }
+    if n <= payload.len() && words <= im.len() && bytes <= data.len() {
+        answer(kind, &payload[..n], &im[..words], &data[..bytes], line)
+    } else {
+        0
     }
-    0
 }
 
 // Answers one record and hands on the current image.
@@ -73,14 +70,12 @@ fn run<R: Read>(
     line: &mut [u32],
 ) -> io::Result<()> {
     let mut now = Current { words: 0, bytes: 0 };
-    let mut left: usize = MOST_RECORDS;
-    while 0 < left {
+    for _ in 0..MOST_RECORDS {
         let h = file::next_head(input)?;
         if !h.there {
             return Ok(());
         }
         now = one_record(rt, input, h, raw, payload, im, data, line, now)?;
-        left -= 1;
     }
     Ok(())
 }
