@@ -1,50 +1,48 @@
 // Executor scripts: docs/FORMATS.md, kind 9.
-use crate::rooms;
+use exchange::case::{Case, Words};
 use exchange::file::least;
-use exchange::read::plus;
-use exchange::{print, read, results, stacks, states};
+use exchange::line::Line;
+use exchange::{results, stacks, states};
 use executor::{ExecCbResult, Execution, Handed, Phase, Refusal};
 use places::SectionAddress;
+use streams::room;
 
-// A script under way: the case and its image, the buffers that the operations change, what is under way, how many
-// states wait, where the next operation stands in the case, and where its answer goes in the line.
+// A script under way: the image, the case's words that are still to be read, the buffers that the operations change,
+// what is under way and how many states wait.
 #[derive(Drop)]
 struct Script<'a> {
-    case: &'a [u32],
     im: &'a [u32],
     data: &'a [u8],
+    words: Words<'a>,
     map: &'a mut [u32],
     stack: &'a mut [u32],
-    line: &'a mut [u32],
     run: Execution,
     count: usize,
-    next: usize,
-    at: usize,
 }
 
-pub(crate) fn play(p: &[u32], im: &[u32], data: &[u8], line: &mut [u32]) -> usize {
-    let mut map = rooms::map();
-    let mut stack = rooms::stack();
-    let words = least(stacks::words_of(read::word(p, 0)), stack.len());
-    let m = least(read::word(p, 1) as usize, map.len());
-    read::copy_words(p, 2, &mut map, m);
+// The buffers are as large as docs/FORMATS.md says of every file.
+pub(crate) fn play(case: Case, line: &mut Line) {
+    let mut map: [u32; 8300] = room(0);
+    // A stack of 64 slots.
+    let mut stack: [u32; 21186] = room(0);
+    let mut words = case.words;
+    let slots = least(stacks::words_of(words.word()), stack.len());
+    let m = least(words.word() as usize, map.len());
+    words.fill_words(&mut map[..m]);
+    let operations = words.word();
     let mut script = Script {
-        case: p,
-        im,
-        data,
+        im: case.image,
+        data: case.data,
+        words,
         map: &mut map[..m],
-        stack: &mut stack[..words],
-        line,
+        stack: &mut stack[..slots],
         run: Execution::idle(),
         count: 0,
-        next: plus(m, 3),
-        at: 0,
     };
-    for _ in 0..read::word(p, m + 2) {
-        script.operation();
+    for _ in 0..operations {
+        script.operation(line);
     }
-    script.last();
-    script.at
+    script.last(line);
 }
 
 fn wish(kind: u32, to: SectionAddress) -> ExecCbResult {
@@ -57,93 +55,66 @@ fn wish(kind: u32, to: SectionAddress) -> ExecCbResult {
 }
 
 impl Script<'_> {
-    // A word of the operation.
-    fn word(&self, i: usize) -> u32 {
-        read::word(self.case, plus(self.next, i))
-    }
-
-    fn place(&self, i: usize) -> SectionAddress {
-        read::place(self.case, plus(self.next, i))
-    }
-
-    fn print(&mut self, w: u32) {
-        self.at = print::word(self.line, self.at, w);
-    }
-
-    fn operation(&mut self) {
-        match self.word(0) {
-            1 => self.push(),
-            2 => self.next(),
-            3 => self.reply(),
-            4 => self.visited(),
-            _ => self.handed_over(),
+    fn operation(&mut self, line: &mut Line) {
+        match self.words.word() {
+            1 => self.push(line),
+            2 => self.next(line),
+            3 => self.reply(line),
+            4 => self.visited(line),
+            _ => self.handed_over(line),
         }
     }
 
-    fn push(&mut self) {
-        let sorted = self.word(1) == 1;
-        let place = self.place(2);
-        let read = read::state(self.case, plus(self.next, 4));
+    fn push(&mut self, line: &mut Line) {
+        let sorted = self.words.word() == 1;
+        let place = self.words.place();
+        let state = self.words.state();
         match executor::push(
-            self.im, self.data, self.stack, self.count, place, read.state, sorted,
+            self.im, self.data, self.stack, self.count, place, state, sorted,
         ) {
             Ok(count) => {
                 self.count = count;
-                self.print(0);
+                line.word(0);
             }
-            Err(why) => self.print(u32::from(why)),
+            Err(why) => line.word(u32::from(why)),
         }
-        self.next = read.next;
     }
 
-    fn next(&mut self) {
-        if let Ok(h) = self.ask(self.run) {
+    fn next(&mut self, line: &mut Line) {
+        if let Ok(h) = self.ask(self.run, line) {
             self.run = h.run;
             self.count = h.count;
         }
-        self.next = plus(self.next, 1);
     }
 
     // `next` with a running place of the case's own: refused, so that nothing changes.
-    fn handed_over(&mut self) {
-        let phase = if self.word(1) == 1 {
+    fn handed_over(&mut self, line: &mut Line) {
+        let phase = if self.words.word() == 1 {
             Phase::Waiting
         } else {
             Phase::Running
         };
-        let place = self.place(2);
-        let _ = self.ask(Execution {
+        let place = self.words.place();
+        let run = Execution {
             phase,
             at: place,
             block_start: place,
             vm: self.run.vm,
-        });
-        self.next = plus(self.next, 4);
+        };
+        let _ = self.ask(run, line);
     }
 
     // What `next` answers over an execution, printed and handed on.
-    fn ask(&mut self, run: Execution) -> Result<Handed, Refusal> {
+    fn ask(&mut self, run: Execution, line: &mut Line) -> Result<Handed, Refusal> {
         let count = self.count;
         let map = &mut *self.map;
         let stack = &mut *self.stack;
         let answer = executor::next(self.im, self.data, map, stack, count, run);
         match answer {
-            Ok(h) => self.print_handed(h),
-            Err(why) => self.print(u32::from(why)),
+            Ok(h) => print_handed(h, line),
+            Err(why) => line.word(u32::from(why)),
         }
         answer
-    }
-
-    fn print_handed(&mut self, h: Handed) {
-        self.print(0);
-        match h.step {
-            None => self.print(0),
-            Some(stepped) => {
-                self.print(1);
-                self.at = print::place(self.line, self.at, h.run.at);
-                self.at = results::found(self.line, self.at, stepped, h.run.vm);
-            }
-        }
     }
 
     fn replied(&self, run: Execution, how: ExecCbResult) -> Result<Execution, Refusal> {
@@ -153,57 +124,63 @@ impl Script<'_> {
     }
 
     // A reply over the state that the caller wants; refused, what was under way stays.
-    fn reply(&mut self) {
-        let how = wish(self.word(1), self.place(2));
+    fn reply(&mut self, line: &mut Line) {
+        let kind = self.words.word();
+        let how = wish(kind, self.words.place());
         let mut wanted = self.run;
-        let mut next = plus(self.next, 5);
-        if self.word(4) == 1 {
-            let read = read::state(self.case, next);
-            wanted.vm = read.state;
-            next = read.next;
+        if self.words.word() == 1 {
+            wanted.vm = self.words.state();
         }
         match self.replied(wanted, how) {
             Ok(run) => {
                 self.run = run;
-                self.print(0);
+                line.word(0);
             }
-            Err(why) => self.print(u32::from(why)),
+            Err(why) => line.word(u32::from(why)),
         }
-        self.next = next;
     }
 
     fn is_visited(&self, p: SectionAddress) -> Result<bool, Refusal> {
         executor::visited(self.im, self.data, self.map, p)
     }
 
-    fn visited(&mut self) {
-        match self.is_visited(self.place(1)) {
+    fn visited(&mut self, line: &mut Line) {
+        let place = self.words.place();
+        match self.is_visited(place) {
             Ok(seen) => {
-                self.print(0);
-                self.at = print::flag(self.line, self.at, seen);
+                line.word(0);
+                line.flag(seen);
             }
-            Err(why) => self.print(u32::from(why)),
+            Err(why) => line.word(u32::from(why)),
         }
-        self.next = plus(self.next, 3);
     }
 
     // What the stack holds, the map, and what is under way.
-    fn last(&mut self) {
-        let (count, at) = (self.count, self.at);
-        let stack = &mut *self.stack;
-        let map = &mut *self.map;
-        let at = stacks::held(stack, count, self.line, at);
-        self.at = print::many(self.line, at, map);
+    fn last(&self, line: &mut Line) {
+        stacks::held(self.stack, self.count, line);
+        line.many(self.map);
         match self.run.phase {
-            Phase::Idle => self.print(0),
-            Phase::Running => self.print_run(1),
-            Phase::Waiting => self.print_run(2),
+            Phase::Idle => line.word(0),
+            Phase::Running => print_run(1, self.run, line),
+            Phase::Waiting => print_run(2, self.run, line),
         }
     }
+}
 
-    fn print_run(&mut self, how: u32) {
-        self.print(how);
-        self.at = print::place(self.line, self.at, self.run.at);
-        self.at = states::state(self.line, self.at, self.run.vm);
+fn print_handed(h: Handed, line: &mut Line) {
+    line.word(0);
+    match h.step {
+        None => line.word(0),
+        Some(stepped) => {
+            line.word(1);
+            line.place(h.run.at);
+            results::found(line, stepped, h.run.vm);
+        }
     }
+}
+
+fn print_run(how: u32, run: Execution, line: &mut Line) {
+    line.word(how);
+    line.place(run.at);
+    states::state(line, run.vm);
 }
