@@ -1,50 +1,20 @@
-// The program's buffers. The limits that they set stand in docs/FORMATS.md, "The image file".
-ghost use Rattle.std.specs.Prelude.{◌≡◌, length};
+// The sizes of the program's buffers. The limits that they set stand in docs/FORMATS.md, "The image file".
 
-// 64 sections and 4,096 entries in each further table: 65,926 words.
-pub(crate) fn image() -> [u32; 66000]
-    ensures { 66000 ≡ length result }
-{
-    [0; 66000]
-}
+// The words of 64 sections and 4,096 entries in each further table, of which there are 65,926.
+pub(crate) const IMAGE: usize = 66000;
 
-pub(crate) fn starts() -> [u64; 16384]
-    ensures { 16384 ≡ length result }
-{
-    [0; 16384]
-}
+pub(crate) const STARTS: usize = 16384;
 
-// A bit for each of 262,144 Code words.
-pub(crate) fn map() -> [u32; 8192]
-    ensures { 8192 ≡ length result }
-{
-    [0; 8192]
-}
+// The words of a map with a bit for each of 262,144 Code words.
+pub(crate) const MAP: usize = 8192;
 
-// 512 waiting states.
-pub(crate) fn small_stack() -> [u32; 169474]
-    ensures { 169474 ≡ length result }
-{
-    [0; 169474]
-}
+// The words of a stack of 512 waiting states, and of one of 4,096: two, and 331 for each state.
+pub(crate) const SMALL_STACK: usize = 169474;
 
-// 4,096 waiting states, each of 331 words, and two.
-pub(crate) fn stack() -> [u32; 1355778]
-    ensures { 1355778 ≡ length result }
-{
-    [0; 1355778]
-}
+pub(crate) const STACK: usize = 1355778;
 
-// A report has at most a byte for each Code word, and eight for each section, and ten.
-pub(crate) fn report() -> [u8; 262666]
-    ensures { 262666 ≡ length result }
-{
-    [0; 262666]
-}
+// The bytes of a report: at most one for each Code word, eight for each section, and ten.
+pub(crate) const REPORT: usize = 262666;
 
-// The name of the report's file.
-pub(crate) fn path() -> [u8; 4096]
-    ensures { 4096 ≡ length result }
-{
-    [0; 4096]
-}
+// The bytes of the name of the report's file.
+pub(crate) const PATH: usize = 4096;

@@ -2,11 +2,12 @@
 -- Assumes nothing.
 use Prim.Native.Nat.{ℕ, zero, suc, ◌+◌, ◌-◌, ◌<◌, ◌≤◌}
 use mathlib.Core.Path.{◌≡◌, refl, ◌∙◌}
+use Rattle.std.specs.Prelude.{Ok}
+use Rattle.std.specs.Result.{result_and}
 use mathlib.Core.Bool.{Bool, true, false, ◌&&◌}
 use mathlib.Core.List.{List}
 use native.Mathlib.Omega.{arith}
 use lib.ListN.{length}
-use Rattle.words.specs.Choice.{pick}
 use Rattle.words.specs.Bytes.{be32}
 use Rattle.places.specs.declared.SectionAddress.{SectionAddress}
 use Rattle.image.specs.Laid.{Laid}
@@ -25,17 +26,23 @@ use Rattle.stack.specs.Valid.{valid_stack}
 use Rattle.stack.proofs.ValidLaws.{valid_stack_lem, stack_valid}
 use Rattle.stack.proofs.Stacks.{pop_stack}
 use Rattle.executor.specs.declared.Phase.{Phase}
-use Rattle.executor.specs.declared.Verdict.TheVariants as verdict
-use Rattle.executor.specs.Judge.{on_place, is_word, is_placed, all_words, lawful, verdict_of}
+use Rattle.executor.specs.declared.Refusal.{Refusal}
+use Rattle.executor.specs.declared.Refusal.TheVariants as refusal
+use Rattle.executor.specs.Judge.{test, on_place, is_word, is_placed, all_words, lawful, verdict_of}
 use Rattle.executor.proofs.Waiting.{all_held}
 
--- the two tests of a judgement
-both_passed : (s t : Bool) → pick s (pick t verdict.Lawful verdict.BadStack) verdict.BrokenImage ≡ verdict.Lawful → (s ≡ true) × (t ≡ true)
-both_passed true true e = (refl, refl)
-both_passed true false e = let z : ◌≡◌ {A = ℕ} 0 1 = cc in absurd (omega arith)
-both_passed false t e = let z : ◌≡◌ {A = ℕ} 0 1 = cc in absurd (omega arith)
+-- a test that refuses nothing has passed
+pub tested : (t : Bool) (why : Refusal) → test t why ≡ Ok tt → t ≡ true
+tested true why e = refl
+tested false why e = absurd (cc)
 
-pub lawful_says : (im : List ℕ) (d : ℕ) (words : List ℕ) (n : ℕ) (ph : Phase) (p : SectionAddress) → verdict_of im d words n ph p ≡ verdict.Lawful
+-- the two tests of a judgement
+both_passed : (s t : Bool) → result_and (test s refusal.BrokenImage) (test t refusal.BadStack) ≡ Ok tt → (s ≡ true) × (t ≡ true)
+both_passed true true e = (refl, refl)
+both_passed true false e = absurd (cc)
+both_passed false t e = absurd (cc)
+
+pub lawful_says : (im : List ℕ) (d : ℕ) (words : List ℕ) (n : ℕ) (ph : Phase) (p : SectionAddress) → verdict_of im d words n ph p ≡ Ok tt
     → (sound im d ≡ true) × (lawful im words n ph p ≡ true)
 lawful_says im d words n ph p e = both_passed (sound im d) (lawful im words n ph p) e
 
@@ -49,7 +56,7 @@ pub record Judged (im : List ℕ) (d : ℕ) (words : List ℕ) (n : ℕ) (ph : P
   pub at_words : all_words im (entries words n) ≡ true
   pub placed : is_placed im ph p ≡ true
 
-pub judged : (im : List ℕ) (d : ℕ) (words : List ℕ) (n : ℕ) (ph : Phase) (p : SectionAddress) → verdict_of im d words n ph p ≡ verdict.Lawful → Judged im d words n ph p
+pub judged : (im : List ℕ) (d : ℕ) (words : List ℕ) (n : ℕ) (ph : Phase) (p : SectionAddress) → verdict_of im d words n ph p ≡ Ok tt → Judged im d words n ph p
 judged im d words n ph p e =
     let both = lawful_says im d words n ph p e in
     let tables = tables_of_sound im d both.0 in
@@ -66,13 +73,13 @@ judged im d words n ph p e =
 
 -- and back
 pub lawful_by : (im : List ℕ) (d : ℕ) (words : List ℕ) (n : ℕ) (ph : Phase) (p : SectionAddress)
-    → sound im d ≡ true → Stack words n → all_words im (entries words n) ≡ true → is_placed im ph p ≡ true → verdict_of im d words n ph p ≡ verdict.Lawful
+    → sound im d ≡ true → Stack words n → all_words im (entries words n) ≡ true → is_placed im ph p ≡ true → verdict_of im d words n ph p ≡ Ok tt
 lawful_by im d words n ph p s st w h = rw (s, stack_valid words n st, w, h)
 
 -- a word is a fine place, and in code
 fine : (x : CodePlace) → on_place x false false true ≡ true → x ≡ place.Fine
-fine place.NotCode e = let z : ◌≡◌ {A = ℕ} 0 1 = cc in absurd (omega arith)
-fine place.Misaligned e = let z : ◌≡◌ {A = ℕ} 0 1 = cc in absurd (omega arith)
+fine place.NotCode e = absurd (cc)
+fine place.Misaligned e = absurd (cc)
 fine place.Fine e = refl
 
 pub word_fine : (im : List ℕ) (p : SectionAddress) → is_word im p ≡ true → code_place im p ≡ place.Fine

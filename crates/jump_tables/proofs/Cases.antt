@@ -13,7 +13,7 @@ use Rattle.image.specs.Rules.{sections_sound, elf_distinct, sections_apart, word
 use Rattle.lookups.specs.Relocations.{relocation_for}
 use Rattle.jump_tables.specs.Keys.{insert_key}
 use Rattle.jump_tables.specs.Readings.{sized_reading, guessed_reading}
-use Rattle.jump_tables.specs.Tables.{passed, verdict, entries_of, read_off, Outcome, answer_of, sized_table, guessed_table, table_in, table_of}
+use Rattle.jump_tables.specs.Tables.{passed, verdict, entries_of, read_off, Outcome, answer_of, count_of, bytes_of, sized_table, guessed_table, table_in, table_of}
 
 -- an Executable, module 7: Code of 16 bytes at 80003000, Data of 22 at 80004000, ReadOnly of 12 at 0 (hex)
 -- the third word of the Data is External, the fourth a relocation of another kind; the second is a symbol of 4 bytes
@@ -36,7 +36,7 @@ at s a = record { section = s; address = a }
 
 -- the answer's number, the count, the size, and the buffer, which held fives
 pub shown : Outcome → List ℕ
-shown o = answer_of o.table.answer ∷ o.table.count ∷ o.table.size ∷ o.keys
+shown o = answer_of o.table ∷ count_of o.table ∷ bytes_of o.table ∷ o.keys
 
 pub fives : List ℕ
 fives = 5 ∷ 5 ∷ 5 ∷ []

@@ -8,6 +8,7 @@ use native.Mathlib.Nat.{not-suc-le-zero}
 use native.Mathlib.Omega.{arith}
 use borrow.Author.Tests.{eq-eqb, ne_eqb, le-ltb, le-leb, lt-leb}
 use lib.ListN.{length}
+use Rattle.std.specs.Prelude.{Some, None, Ok}
 use Rattle.words.specs.Choice.{pick}
 use Rattle.places.specs.declared.SectionAddress.{SectionAddress}
 use Rattle.places.specs.declared.MaybeAddress.{MaybeAddress}
@@ -28,9 +29,9 @@ use Rattle.lookups.specs.Bytes.{word_at}
 use Rattle.jump_tables.specs.declared.How.TheVariants.{Sized}
 use Rattle.jump_tables.specs.declared.Reading.{Reading}
 use Rattle.jump_tables.specs.declared.Reading.TheVariants.{Stopped, Skipped, Faulty, Nowhere, Entry}
-use Rattle.jump_tables.specs.declared.TableAnswer.TheVariants as answer
+use Rattle.jump_tables.specs.declared.TableError.TheVariants as error
 use Rattle.jump_tables.specs.Readings.{on_relocation, bare_entry, on_entry, past_end, in_function, guessed_target, guessed_word, sized_reading, guessed_reading}
-use Rattle.jump_tables.specs.Tables.{on_stop, passed, verdict, entries_of, Outcome, refused, filled, read_off, words_passed, clamped_size, size_of, is_table, sized_table, table_in}
+use Rattle.jump_tables.specs.Tables.{on_stop, passed, verdict, entries_of, bytes_of, Outcome, refused, filled, read_off, words_passed, clamped_size, size_of, is_table, sized_table, table_in}
 use Rattle.jump_tables.proofs.Passing.{passed_step}
 use Rattle.jump_tables.proofs.Outcomes.{size_is_read, ragged_sized, whole_sized}
 use Rattle.jump_tables.proofs.SizedWords.{sized_passes_all}
@@ -140,7 +141,7 @@ runs_into_section_end ws p n s t = let i = (in_table ws p s t).place in omega (a
 
 -- 8 whatever the words are, so before 7 and 9
 pub ragged_is_8 : (ws bs : List ℕ) (p : SectionAddress) (n : ℕ) (start : SectionAddress) (e : MaybeAddress) (room : ℕ) → is_table ws p ≡ true
-    → (size_of ws p n ≡ 0 → ⊥) → (clamped_size ws p (size_of ws p n) % 4 ≡ 0 → ⊥) → table_in ws bs p n start e room ≡ refused answer.Ragged room
+    → (size_of ws p n ≡ 0 → ⊥) → (clamped_size ws p (size_of ws p n) % 4 ≡ 0 → ⊥) → table_in ws bs p n start e room ≡ refused error.Ragged room
 ragged_is_8 ws bs p n start e room t z r =
     size_is_read ws bs p n start e room t z ∙ ragged_sized ws bs p (size_of ws p n) start e room (clamped_size ws p (size_of ws p n)) refl r
 
@@ -169,38 +170,38 @@ first_bad f (suc n) (suc k) i l g =
     ∙ first_bad f n k (suc i) (omega arith) (λ j h. let x : i + suc j ≡ suc i + j = omega arith in rw x at (g (suc j) (omega arith)))
     ∙ rw (m, y)
 
-pub first_error_is_7 : (f : ℕ → Reading) (n k room : ℕ) → k < n → ((j : ℕ) → j < k → Good (f j)) → f k ≡ Faulty → read_off (passed f n 0) room ≡ refused answer.RelocationError room
+pub first_error_is_7 : (f : ℕ → Reading) (n k room : ℕ) → k < n → ((j : ℕ) → j < k → Good (f j)) → f k ≡ Faulty → read_off (passed f n 0) room ≡ refused error.RelocationError room
 unfolding read_off verdict
 first_error_is_7 f n k room l g e =
     let z : 0 + k ≡ k = omega arith in
-    let v : verdict (passed f n 0) ≡ answer.RelocationError = first_bad f n k 0 l (λ j h. let y : 0 + j ≡ j = omega arith in rw y (g j h)) ∙ rw (z, passed_step f n k l, e) in
+    let v : verdict (passed f n 0) ≡ Some error.RelocationError = first_bad f n k 0 l (λ j h. let y : 0 + j ≡ j = omega arith in rw y (g j h)) ∙ rw (z, passed_step f n k l, e) in
     rw v
 
-pub first_nowhere_is_9 : (f : ℕ → Reading) (n k room : ℕ) → k < n → ((j : ℕ) → j < k → Good (f j)) → f k ≡ Nowhere → read_off (passed f n 0) room ≡ refused answer.PointsNowhere room
+pub first_nowhere_is_9 : (f : ℕ → Reading) (n k room : ℕ) → k < n → ((j : ℕ) → j < k → Good (f j)) → f k ≡ Nowhere → read_off (passed f n 0) room ≡ refused error.PointsNowhere room
 unfolding read_off verdict
 first_nowhere_is_9 f n k room l g e =
     let z : 0 + k ≡ k = omega arith in
-    let v : verdict (passed f n 0) ≡ answer.PointsNowhere = first_bad f n k 0 l (λ j h. let y : 0 + j ≡ j = omega arith in rw y (g j h)) ∙ rw (z, passed_step f n k l, e) in
+    let v : verdict (passed f n 0) ≡ Some error.PointsNowhere = first_bad f n k 0 l (λ j h. let y : 0 + j ≡ j = omega arith in rw y (g j h)) ∙ rw (z, passed_step f n k l, e) in
     rw v
 
 -- 10 is judged where no entry is bad, after all were read
-pub too_many_is_10 : (rs : List Reading) (room : ℕ) → verdict rs ≡ answer.Read → room < length (entries_of rs []) → read_off rs room ≡ refused answer.Full room
+pub too_many_is_10 : (rs : List Reading) (room : ℕ) → verdict rs ≡ None → room < length (entries_of rs []) → read_off rs room ≡ refused error.Full room
 unfolding read_off
 too_many_is_10 rs room v h = rw (v, lt-leb (length (entries_of rs [])) room h)
 
-pub fitting_is_read : (rs : List Reading) (room : ℕ) → verdict rs ≡ answer.Read → length (entries_of rs []) ≤ room
-    → read_off rs room ≡ record { table = record { answer = answer.Read; count = length (entries_of rs []); size = length rs * 4 }; keys = filled (entries_of rs []) room }
+pub fitting_is_read : (rs : List Reading) (room : ℕ) → verdict rs ≡ None → length (entries_of rs []) ≤ room
+    → read_off rs room ≡ record { table = Ok (record { count = length (entries_of rs []); size = length rs * 4 }); keys = filled (entries_of rs []) room }
 unfolding read_off
 fitting_is_read rs room v h = rw (v, le-leb (length (entries_of rs [])) room h)
 
 -- the size of a sized table that is read is its clamped size: skipped words count
 pub sized_size : (ws bs : List ℕ) (p : SectionAddress) (n room : ℕ) → tables_sound ws ≡ true → data_inside ws (length bs) ≡ true → is_table ws p ≡ true
-    → clamped_size ws p n % 4 ≡ 0 → verdict (words_passed ws bs Sized p (clamped_size ws p n / 4)) ≡ answer.Read
-    → length (entries_of (words_passed ws bs Sized p (clamped_size ws p n / 4)) []) ≤ room → (sized_table ws bs p n room).table.size ≡ clamped_size ws p n
+    → clamped_size ws p n % 4 ≡ 0 → verdict (words_passed ws bs Sized p (clamped_size ws p n / 4)) ≡ None
+    → length (entries_of (words_passed ws bs Sized p (clamped_size ws p n / 4)) []) ≤ room → bytes_of (sized_table ws bs p n room).table ≡ clamped_size ws p n
 sized_size ws bs p n room s d t r v h =
     let rs = words_passed ws bs Sized p (clamped_size ws p n / 4) in
     let all = sized_passes_all ws bs p n s d t in
-    ap (λ (o : Outcome). o.table.size) (whole_sized ws bs p n p maybe.Nowhere room (clamped_size ws p n) refl r ∙ fitting_is_read rs room v h)
+    ap (λ (o : Outcome). bytes_of o.table) (whole_sized ws bs p n p maybe.Nowhere room (clamped_size ws p n) refl r ∙ fitting_is_read rs room v h)
     ∙ ap (λ (k : ℕ). k * 4) all ∙ whole (clamped_size ws p n) r
   where
     whole : (m : ℕ) → m % 4 ≡ 0 → m / 4 * 4 ≡ m

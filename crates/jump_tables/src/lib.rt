@@ -36,28 +36,19 @@ pub enum Reading {
     Entry(SectionAddress),
 }
 
-// How many entries a buffer holds, and whether one more was met that it has no room for.
-#[derive(Clone, Copy)]
-pub struct Held {
-    pub count: usize,
-    pub over: bool,
-}
-
-// Document 01's numbers: 1, 7, 8, 9, 10; and 0 for a table that was read.
-#[derive(Clone, Copy)]
-pub enum TableAnswer {
+// Why a table is refused: document 01's 1, 7, 8, 9, 10.
+#[derive(Clone, Copy, PartialEq, Eq)]
+pub enum TableError {
     Broken,
     RelocationError,
     Ragged,
     PointsNowhere,
     Full,
-    Read,
 }
 
-// The answer; where the table was read, how many entries it has and the bytes passed.
+// How many entries a table has, and the bytes passed.
 #[derive(Clone, Copy)]
 pub struct Table {
-    pub answer: TableAnswer,
     pub count: usize,
     pub size: u32,
 }
@@ -74,16 +65,12 @@ pub fn uniq_jump_table_entries(
     start: SectionAddress,
     end: MaybeAddress,
     entries: &mut [u64],
-) -> Table
+) -> Result<Table, TableError>
     ensures value { result ≡ (table_of im.now bytes.now at size start end entries.old).table }
     ensures buffer { entries.new ≡ (table_of im.now bytes.now at size start end entries.old).keys }
 {
     match check_image(im, bytes) {
-        Judged::Broken => Table {
-            answer: TableAnswer::Broken,
-            count: 0,
-            size: 0,
-        },
+        Judged::Broken => Err(TableError::Broken),
         Judged::Sound => table_in(im, bytes, at, size, start, end, entries),
     }
 }

@@ -4,6 +4,7 @@ use Prim.Native.Nat.{ℕ}
 use mathlib.Core.Path.{◌≡◌, refl, sym, ap, ◌∙◌, subst}
 use mathlib.Core.Bool.{true, false}
 use mathlib.Core.List.{List, [], ◌∷◌}
+use mathlib.Core.Logic.{◌⊎◌, inl, inr}
 use native.Mathlib.Omega.{arith}
 use lib.ListN.{length}
 use Rattle.places.specs.declared.SectionAddress.{SectionAddress}
@@ -13,23 +14,28 @@ use Rattle.vm.specs.declared.VM.{VM}
 use Rattle.vm.specs.declared.BranchTarget.{BranchTarget}
 use Rattle.vm.specs.declared.BranchTarget.TheVariants as branch
 use Rattle.step.specs.declared.Leave.{Leave}
-use Rattle.step.specs.declared.Leave.TheVariants.{Ended, Jump}
+use Rattle.step.specs.declared.Leave.TheVariants.{Ended, Illegal, Jump}
 use Rattle.step.specs.Ways.{left_of}
 use Rattle.stack.specs.Stack.{Stack, room}
 use Rattle.turns.specs.Grounds.{Way, to, jump, leave}
 use Rattle.turns.specs.Turns.{take_ways}
 use Rattle.turns.specs.Moves.{Asked, ways_of, jump_by, move_by, ground_of, table_room}
 use Rattle.turns.specs.Straight.{leaving}
-use Rattle.turns.proofs.Leavings.{leaving_jump}
+use Rattle.turns.proofs.Leavings.{leaving_illegal, leaving_jump}
 use Rattle.turns.proofs.PileLaws.{piles_no_way}
 use Rattle.pushes.specs.declared.Taken.{Taken}
 use Rattle.pushes.specs.Takes.{none, is_way, stays_in, Takes, PushedAt, TakenTarget, TakenWays}
 use Rattle.pushes.proofs.WayLaws.{no_way, place_refused, place_then}
 
 -- a run that ended at its section's end asks for nothing
-pub leaving_ended : (at : SectionAddress) (s : VM) → leaving Ended at s ≡ leave []
+leaving_ended : (at : SectionAddress) (s : VM) → leaving Ended at s ≡ leave []
 unfolding move_by left_of
 leaving_ended at s = refl
+
+-- nor does a word that is illegal
+pub leaving_none : (at : SectionAddress) (s : VM) (l : Leave) → (l ≡ Ended) ⊎ (l ≡ Illegal) → leaving l at s ≡ leave []
+leaving_none at s l (inl e) = rw e (leaving_ended at s)
+leaving_none at s l (inr e) = rw e (leaving_illegal at s)
 
 -- a jump whose target is not in the section leaves by the target's ways
 pub leaving_away : (at : SectionAddress) (s : VM) (t : BranchTarget) → stays_in at t ≡ false → leaving (Jump t) at s ≡ leave (ways_of t s)

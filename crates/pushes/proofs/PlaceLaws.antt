@@ -69,6 +69,8 @@ module _ (ws words : List ℕ) (n : ℕ) (keys : List ℕ) (s : VM) where
         rw z
         (record {
           piles = λ bs from upto buffer. rw (← places_first keys e, ← same) (h.piles bs from upto buffer);
+          read = refl;
+          not_read = refl;
         })
 
     -- one more
@@ -90,4 +92,6 @@ module _ (ws words : List ℕ) (n : ℕ) (keys : List ℕ) (s : VM) where
         piles = λ bs from upto buffer.
             rw (← places_first keys e, f)
             (piles_keys_stop (ground_of ws bs from upto (room (length words))) s keys (j + 1) e (omega arith) b (next true f bs from upto buffer));
+        read = p.read;
+        not_read = p.not_read;
       }

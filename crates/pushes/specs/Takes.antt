@@ -24,6 +24,10 @@ use Rattle.pushes.specs.declared.Taken.{Taken}
 abbrev pub none : ℕ → Taken
 none n = record { held = n; full = false; read = 0; not_read = 0 }
 
+-- the same for a table that was not read
+abbrev pub unread : ℕ → Taken
+unread n = record { held = n; full = false; read = 0; not_read = 1 }
+
 -- a target that is a word of code or a table; to any other nothing is pushed
 abbrev pub place_is_way : List ℕ → RelocationTarget → Bool
 place_is_way ws target.External = false
@@ -62,6 +66,8 @@ pub record PushedAt (ws words : List ℕ) (n : ℕ) (q : SectionAddress) (s : VM
 pub record PushedKeys (ws words : List ℕ) (n : ℕ) (keys : List ℕ) (e : ℕ) (s : VM) (words' : List ℕ) (r : Taken) : Type 0 where
   pub piles : (bs : List ℕ) (from : SectionAddress) (upto : MaybeAddress) (buffer : List ℕ)
       → Piles (push_each (ground_of ws bs from upto (room (length words))) s (map place_of (take e keys))) words n buffer words' r.held buffer r.full 0 0
+  pub read : r.read ≡ 0
+  pub not_read : r.not_read ≡ 0
 
 -- a table that the word at any place asks for
 abbrev pub TakenTable : List ℕ → List ℕ → SectionAddress → MaybeAddress → List ℕ → ℕ → List ℕ → RelocationTarget → TableSize → VM → List ℕ → List ℕ → Taken → Type 0

@@ -275,8 +275,7 @@ pub fn take(
     ensures { TakenWays im.now bytes.now from upto stack.old count entries.old at l (state_of cells.now) stack.new entries.new result }
 {
     match l {
-        Leave::Ended => nothing(count),
-        Leave::Illegal => nothing(count),
+        Leave::Ended | Leave::Illegal => nothing(count),
         Leave::Jump(t) => take_jump(im, bytes, from, upto, stack, count, entries, at, t, cells),
         Leave::Call(t) => take_call(im, bytes, from, upto, stack, count, entries, at, t, cells),
         Leave::Fork {

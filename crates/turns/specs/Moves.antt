@@ -24,8 +24,8 @@ use Rattle.step.specs.declared.Stepped.{Stepped}
 use Rattle.step.specs.Step.{step_of}
 use Rattle.stack.specs.Stack.{Entry, entry_key}
 use Rattle.stack.specs.Push.{pushed_words}
-use Rattle.jump_tables.specs.declared.TableAnswer.TheVariants as answer
-use Rattle.jump_tables.specs.Tables.{Outcome, refused, answer_of, table_in, size_of}
+use Rattle.jump_tables.specs.declared.TableError.TheVariants as error
+use Rattle.jump_tables.specs.Tables.{Outcome, refused, answer_of, count_of, table_in, size_of}
 use Rattle.turns.specs.Grounds.{Way, to, table, Move, on, jump, leave, Ground}
 
 -- how many entries a table may have in a walk, and how many places one word can push: two ways of so many
@@ -108,7 +108,7 @@ move_at ws bs p s = move_from p (step_of ws p (word_of ws bs p) s)
 
 -- "read with the given function bounds and 1,024 entries"; External is not read
 abbrev pub look_to : List ℕ → List ℕ → SectionAddress → MaybeAddress → RelocationTarget → ℕ → Outcome
-look_to ws bs from upto target.External n = refused answer.PointsNowhere table_room
+look_to ws bs from upto target.External n = refused error.PointsNowhere table_room
 look_to ws bs from upto (target.Address p) n = table_in ws bs p n from upto table_room
 
 unfoldable pub look_at : List ℕ → List ℕ → SectionAddress → MaybeAddress → Asked → Outcome
@@ -116,7 +116,7 @@ look_at ws bs from upto a = look_to ws bs from upto a.target a.size
 
 -- "A refused or External table adds one to "tables not read"": all others were read, empty or not
 abbrev pub is_read : Outcome → Bool
-is_read o = eqb (answer_of o.table.answer) 0
+is_read o = eqb (answer_of o.table) 0
 
 -- an entry is its section's index times 2^32 plus its address
 abbrev pub place_of : ℕ → SectionAddress
@@ -124,7 +124,7 @@ place_of k = record { section = k / 2 ^ 32; address = k % 2 ^ 32 }
 
 -- the entries, ascending; a refused table has none
 abbrev pub listed_in : Outcome → List SectionAddress
-listed_in o = map place_of (take o.table.count o.keys)
+listed_in o = map place_of (take (count_of o.table) o.keys)
 
 -- the table has no known size: neither its symbol's nor the found one
 abbrev pub guessed_to : List ℕ → RelocationTarget → ℕ → Bool

@@ -2,10 +2,9 @@
 // Crate `walk` does what is defined here.
 #![tactic(auto)]
 
-// What a walk answers: 0 for a walk that ran to its end, or document 01's 1, 2, 3, 4, 5.
-#[derive(Clone, Copy)]
-pub enum WalkAnswer {
-    Done,
+// Why a walk is refused, or stopped before its end: document 01's 1, 2, 3, 4; 5 stops it.
+#[derive(Clone, Copy, PartialEq, Eq)]
+pub enum WalkError {
     BrokenImage,
     NotCode,
     Misaligned,
@@ -13,10 +12,10 @@ pub enum WalkAnswer {
     StackFull,
 }
 
-// The answer; how many instructions were stepped, blocks begun, tables read and not read; how many states still wait.
+// Whether the walk ran to its end; how many instructions were stepped, blocks begun, tables read and not read; how many states still wait.
 #[derive(Clone, Copy)]
 pub struct Walked {
-    pub answer: WalkAnswer,
+    pub answer: Result<(), WalkError>,
     pub stepped: u64,
     pub begun: u64,
     pub read: u64,

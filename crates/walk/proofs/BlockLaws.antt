@@ -8,6 +8,7 @@ use native.Mathlib.Omega.{arith}
 use native.Mathlib.Nat.{mul-le-mul}
 use lib.ListN.{length}
 use borrow.Author.Tests.{not-true}
+use Rattle.std.specs.Prelude.{Some, None}
 use Rattle.words.specs.Choice.{pick}
 use Rattle.search.proofs.EveryLaws.{and_left, and_right}
 use Rattle.places.specs.declared.SectionAddress.{SectionAddress}
@@ -118,7 +119,7 @@ module _ {ws bs : List ℕ} (fine : sound ws (length bs) ≡ true) {p₀ : Secti
 
     -- the section's end
     pub block_past : is_ended r.leave ≡ true → (from : SectionAddress) (upto : MaybeAddress) (slots : ℕ)
-        → Block (ground_of ws bs from upto slots) p₀ s₀ v₀ (record { leaves = false; last = r; stepped = n + many; begun = b }) run_map
+        → Block (ground_of ws bs from upto slots) p₀ s₀ v₀ (record { leave = None; at = r.at; vm = r.vm; stepped = n + many; begun = b }) run_map
     block_past w from upto slots = record {
       many = n + many;
       map = run_map;
@@ -146,14 +147,14 @@ module _ {ws bs : List ℕ} (fine : sound ws (length bs) ≡ true) {p₀ : Secti
 
       -- it leaves by ways
       pub block_leaves : jump_in r.leave r.at.section ≡ Nowhere → (from : SectionAddress) (upto : MaybeAddress) (slots : ℕ)
-          → Block (ground_of ws bs from upto slots) p₀ s₀ v₀ (record { leaves = true; last = r; stepped = n + many + 1; begun = b }) leave_map
+          → Block (ground_of ws bs from upto slots) p₀ s₀ v₀ (record { leave = Some r.leave; at = r.at; vm = r.vm; stepped = n + many + 1; begun = b }) leave_map
       block_leaves j from upto slots =
           let a : Asks Nowhere (leaving r.leave r.at r.vm) r.vm = rw j at (leaver_asks r.at r.vm r.leave) in
           record {
             many = n + many;
             map = run_map;
             line = run_line from upto slots;
-            ends = leaves_by a.0 leaver (moves from upto slots ∙ a.1) a.1 refl refl (marked from upto slots);
+            ends = leaves_by r.leave a.0 leaver (moves from upto slots ∙ a.1) a.1 refl refl (marked from upto slots);
           }
 
       -- it jumps inside the section
@@ -163,11 +164,11 @@ module _ {ws bs : List ℕ} (fine : sound ws (length bs) ≡ true) {p₀ : Secti
 
         -- to no word of code, or to a visited one
         pub block_stays : is_fine (code_place ws q) && not (visited_at leave_map (word_number ws q)) ≡ false → (from : SectionAddress) (upto : MaybeAddress) (slots : ℕ)
-            → Block (ground_of ws bs from upto slots) p₀ s₀ v₀ (record { leaves = false; last = r; stepped = n + many + 1; begun = b }) leave_map
+            → Block (ground_of ws bs from upto slots) p₀ s₀ v₀ (record { leave = None; at = r.at; vm = r.vm; stepped = n + many + 1; begun = b }) leave_map
         block_stays o from upto slots = by (is_fine (code_place ws q)) refl (visited_at leave_map (word_number ws q)) refl
           where
             by : (x : Bool) → is_fine (code_place ws q) ≡ x → (y : Bool) → visited_at leave_map (word_number ws q) ≡ y
-                → Block (ground_of ws bs from upto slots) p₀ s₀ v₀ (record { leaves = false; last = r; stepped = n + many + 1; begun = b }) leave_map
+                → Block (ground_of ws bs from upto slots) p₀ s₀ v₀ (record { leave = None; at = r.at; vm = r.vm; stepped = n + many + 1; begun = b }) leave_map
             by false f y g = record {
               many = n + many;
               map = run_map;

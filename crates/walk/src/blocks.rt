@@ -35,12 +35,7 @@ fn branch_in(t: BranchTarget, section: u32) -> MaybeAddress
 {
     match t {
         BranchTarget::Address(a) => target_in(a, section),
-        BranchTarget::Unknown => MaybeAddress::Nowhere,
-        BranchTarget::Return => MaybeAddress::Nowhere,
-        BranchTarget::JumpTable {
-            address: _,
-            size: _,
-        } => MaybeAddress::Nowhere,
+        _ => MaybeAddress::Nowhere,
     }
 }
 
@@ -50,16 +45,7 @@ fn jump_in(l: Leave, section: u32) -> MaybeAddress
 {
     match l {
         Leave::Jump(t) => branch_in(t, section),
-        Leave::Ended => MaybeAddress::Nowhere,
-        Leave::Illegal => MaybeAddress::Nowhere,
-        Leave::Call(_) => MaybeAddress::Nowhere,
-        Leave::Fork {
-            target: _,
-            crf: _,
-            stays: _,
-            goes: _,
-        } => MaybeAddress::Nowhere,
-        Leave::Both(_) => MaybeAddress::Nowhere,
+        _ => MaybeAddress::Nowhere,
     }
 }
 
@@ -100,8 +86,7 @@ pub fn run_block(
         if is_ended(l) {
             visited::mark_run(map, w, many);
             return Ended {
-                leaves: false,
-                leave: l,
+                leave: None,
                 at,
                 stepped: stepped + many as u64,
                 begun,
@@ -112,8 +97,7 @@ pub fn run_block(
         match jump_in(l, at.section) {
             MaybeAddress::Nowhere => {
                 return Ended {
-                    leaves: true,
-                    leave: l,
+                    leave: Some(l),
                     at,
                     stepped,
                     begun,
@@ -121,13 +105,12 @@ pub fn run_block(
             }
             MaybeAddress::At(q) => {
                 if is_new(im, map, q) {
-                    begun = begun + 1;
+                    begun += 1;
                     p = q;
                     continue;
                 }
                 return Ended {
-                    leaves: false,
-                    leave: l,
+                    leave: None,
                     at,
                     stepped,
                     begun,

@@ -5,7 +5,6 @@ use Rattle.std.specs.Prelude.{is_some}
 use Rattle.pushes.proofs.PlaceLaws.{pushed_out, pushed_word}
 use Rattle.cells.specs.Cells.{state_of}
 use Rattle.clones.specs.Clones.{made_of}
-use borrow.Author.Rules.{rules}
 use Rattle.pushes.proofs.push_at.Goals as goal
 
 turned : (a b : Bool) → a ≡ not b → b ≡ not a

@@ -1,7 +1,6 @@
 -- 1, then 4, then the starts.
 use mathlib.Core.Path.{sym, ◌∙◌}
 use lib.ListN.{length}
-use borrow.Author.Rules.{rules}
 use Rattle.image.proofs.SoundTables.{laid, tables_of_sound}
 use Rattle.jump_tables.proofs.Outcomes.{judged_sound, judged_broken}
 use Rattle.turns.proofs.WalkLaws.{judges_starts}
