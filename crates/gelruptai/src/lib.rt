@@ -17,10 +17,8 @@ ghost use Rattle.gelruptai.specs.Handed.{walk_on, table_on, stack_words, table_c
 pub use given::GIVEN;
 use given::{base_in, maybe_in, place_in, words_of};
 use image::Judged;
-use image_file::Parsed;
-use numbers::{read_number, rule_number, table_number, walk_number, wrong_number};
+use numbers::{read_number, rule_number, table_number, walk_number, write_number, wrong_number};
 use places::SectionAddress;
-use report::Wrote;
 use slot::SLOT_WORDS;
 use walk::TABLE_ROOM;
 
@@ -112,8 +110,8 @@ pub fn gelruptai_write_report(
     ensures out { out.new ≡ write_leaves im.now (length «data».now) map.now out.old }
 {
     let w = report::write_report(im, data, map, out);
-    *written = numbers::length_of(w);
-    numbers::write_number(w)
+    *written = w.unwrap_or(0);
+    write_number(w)
 }
 
 // `report::read_report`: 0, 1, 4, 13.
@@ -140,11 +138,11 @@ pub fn gelruptai_read_file(
     ensures counts { counts.new ≡ file_counts file.now (answered file.now (length im.old) (length starts.old)) }
 {
     match image_file::read_file(file, im, starts) {
-        Parsed::Bad(wrong, at) => {
-            *counts = [at as u64, 0, 0, 0];
-            wrong_number(wrong)
+        Err(fault) => {
+            *counts = [fault.at as u64, 0, 0, 0];
+            wrong_number(fault.wrong)
         }
-        Parsed::File(h) => {
+        Ok(h) => {
             let from = image_file::fields::data_from(file);
             *given = words_of(h);
             *counts = [h.words as u64, h.starts as u64, from as u64, h.bytes as u64];

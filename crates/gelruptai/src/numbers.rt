@@ -2,12 +2,12 @@
 ghost use Rattle.std.specs.Prelude.{◌≡◌};
 ghost use Rattle.turns.specs.Walks.{answer_of};
 ghost use Rattle.report.specs.Answers.{write_number, read_number};
-ghost use Rattle.gelruptai.specs.Numbers.{rule_number, table_number, wrong_number, length_of};
+ghost use Rattle.gelruptai.specs.Numbers.{rule_number, table_number, wrong_number};
 
 use faults::Rule;
 use image_file::Wrong;
 use jump_tables::TableAnswer;
-use report::{Done, Wrote};
+use report::{ReadError, WriteError};
 use turns::WalkAnswer;
 
 pub(crate) fn walk_number(a: WalkAnswer) -> u32
@@ -36,58 +36,42 @@ pub(crate) fn table_number(a: TableAnswer) -> u32
     }
 }
 
-pub(crate) fn write_number(w: Wrote) -> u32
+pub(crate) fn write_number(w: Result<usize, WriteError>) -> u32
     ensures { result ≡ write_number w }
 {
     match w {
-        Wrote::BrokenImage => 1,
-        Wrote::SmallMap => 4,
-        Wrote::NoRoom => 10,
-        Wrote::Bytes(_) => 0,
+        Ok(_) => 0,
+        Err(e) => u32::from(e),
     }
 }
 
-// The report's length, 0 where none was written.
-pub(crate) fn length_of(w: Wrote) -> usize
-    ensures { result ≡ length_of w }
+pub(crate) fn read_number(r: Result<(), ReadError>) -> u32
+    ensures { result ≡ read_number r }
 {
-    match w {
-        Wrote::BrokenImage => 0,
-        Wrote::SmallMap => 0,
-        Wrote::NoRoom => 0,
-        Wrote::Bytes(n) => n,
+    match r {
+        Ok(_) => 0,
+        Err(e) => u32::from(e),
     }
 }
 
-pub(crate) fn read_number(d: Done) -> u32
-    ensures { result ≡ read_number d }
-{
-    match d {
-        Done::BrokenImage => 1,
-        Done::SmallMap => 4,
-        Done::NoReport => 13,
-        Done::Done => 0,
-    }
-}
-
-pub(crate) fn rule_number(u: Rule) -> u32
+pub(crate) fn rule_number(u: Option<Rule>) -> u32
     ensures { result ≡ rule_number u }
 {
     match u {
-        Rule::Sound => 0,
-        Rule::Words => 1,
-        Rule::Counts => 2,
-        Rule::Kind => 3,
-        Rule::Sections => 4,
-        Rule::ElfNumbers => 5,
-        Rule::Overlaps => 6,
-        Rule::CodeWords => 7,
-        Rule::Bounds => 8,
-        Rule::BoundOrder => 9,
-        Rule::Unbounds => 10,
-        Rule::Symbols => 11,
-        Rule::SymbolOrder => 12,
-        Rule::Data => 13,
+        None => 0,
+        Some(Rule::Words) => 1,
+        Some(Rule::Counts) => 2,
+        Some(Rule::Kind) => 3,
+        Some(Rule::Sections) => 4,
+        Some(Rule::ElfNumbers) => 5,
+        Some(Rule::Overlaps) => 6,
+        Some(Rule::CodeWords) => 7,
+        Some(Rule::Bounds) => 8,
+        Some(Rule::BoundOrder) => 9,
+        Some(Rule::Unbounds) => 10,
+        Some(Rule::Symbols) => 11,
+        Some(Rule::SymbolOrder) => 12,
+        Some(Rule::Data) => 13,
     }
 }
 

@@ -1,6 +1,4 @@
 // Walks: docs/FORMATS.md, kind 10.
-ghost use Rattle.std.specs.Prelude.{◌≤◌, length};
-
 use crate::rooms;
 use exchange::file::least;
 use exchange::read::plus;
@@ -9,21 +7,22 @@ use turns::{WalkAnswer, Walked};
 use vm::MaybeBase;
 
 pub(crate) fn walk(p: &[u32], im: &[u32], data: &[u8], line: &mut [u32]) -> usize {
-    let mut map = rooms::map();
-    let mut stack = rooms::stack();
-    let mut starts = rooms::starts();
-    fill(&mut map, read::word(p, 2));
+    let mut map: [u32; rooms::MAP] = rooms::filled(read::word(p, 2));
+    let mut stack: [u32; rooms::STACK] = rooms::filled(0);
+    let mut starts: [u64; rooms::STARTS] = rooms::filled(0);
     read_starts(p, &mut starts);
-    walk_with(p, im, data, &starts, &mut map, &mut stack, line)
-}
-
-// Every word of a map made the same.
-fn fill(map: &mut [u32], w: u32) {
-    let mut i = 0;
-    while i < map.len() {
-        map[i] = w;
-        i += 1;
-    }
+    let words = least(stacks::words_of(read::word(p, 0)), rooms::STACK);
+    let m = least(read::word(p, 1) as usize, rooms::MAP);
+    let n = least(read::word(p, 12) as usize, rooms::STARTS);
+    walk_in(
+        p,
+        im,
+        data,
+        &starts[..n],
+        &mut map[..m],
+        &mut stack[..words],
+        line,
+    )
 }
 
 // A start: its section times 2^32 plus its address.
@@ -34,36 +33,9 @@ fn key(p: &[u32], at: usize) -> u64 {
 }
 
 fn read_starts(p: &[u32], starts: &mut [u64]) {
-    let mut at: usize = 13;
-    let mut i = 0;
-    while i < starts.len() {
-        starts[i] = key(p, at);
-        at = plus(at, 2);
-        i += 1;
+    for (i, start) in starts.iter_mut().enumerate() {
+        *start = key(p, plus(13, i * 2));
     }
-}
-
-fn walk_with(
-    p: &[u32],
-    im: &[u32],
-    data: &[u8],
-    starts: &[u64],
-    map: &mut [u32],
-    stack: &mut [u32],
-    line: &mut [u32],
-) -> usize {
-    let words = least(stacks::words_of(read::word(p, 0)), stack.len());
-    let m = least(read::word(p, 1) as usize, map.len());
-    let n = least(read::word(p, 12) as usize, starts.len());
-    walk_in(
-        p,
-        im,
-        data,
-        &starts[..n],
-        &mut map[..m],
-        &mut stack[..words],
-        line,
-    )
 }
 
 fn base(p: &[u32], i: usize) -> MaybeBase {
