@@ -5,8 +5,8 @@ use exchange::{print, read};
 
 // A report of the case's map, in its buffer.
 pub(crate) fn write(p: &[u32], im: &[u32], data: &[u8], line: &mut [u32]) -> usize {
-    let mut map = [0u32; rooms::MAP];
-    let mut out = [0u8; rooms::REPORT];
+    let mut map: [u32; rooms::MAP] = rooms::filled(0);
+    let mut out: [u8; rooms::REPORT] = rooms::filled(0);
     let m = least(read::word(p, 0) as usize, rooms::MAP);
     read::copy_words(p, 1, &mut map, m);
     let room = least(read::word(p, m + 1) as usize, rooms::REPORT);
@@ -25,8 +25,8 @@ fn write_in(im: &[u32], data: &[u8], map: &[u32], out: &mut [u8], line: &mut [u3
 }
 
 pub(crate) fn read(p: &[u32], im: &[u32], data: &[u8], line: &mut [u32]) -> usize {
-    let mut map = [0u32; rooms::MAP];
-    let mut bytes = [0u8; rooms::REPORT];
+    let mut map: [u32; rooms::MAP] = rooms::filled(0);
+    let mut bytes: [u8; rooms::REPORT] = rooms::filled(0);
     let m = least(read::word(p, 0) as usize, rooms::MAP);
     read::copy_words(p, 1, &mut map, m);
     let n = least(read::word(p, m + 1) as usize, rooms::REPORT);

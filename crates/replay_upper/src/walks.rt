@@ -7,9 +7,9 @@ use turns::{WalkAnswer, Walked};
 use vm::MaybeBase;
 
 pub(crate) fn walk(p: &[u32], im: &[u32], data: &[u8], line: &mut [u32]) -> usize {
-    let mut map = [read::word(p, 2); rooms::MAP];
-    let mut stack = [0u32; rooms::STACK];
-    let mut starts = [0u64; rooms::STARTS];
+    let mut map: [u32; rooms::MAP] = rooms::filled(read::word(p, 2));
+    let mut stack: [u32; rooms::STACK] = rooms::filled(0);
+    let mut starts: [u64; rooms::STARTS] = rooms::filled(0);
     read_starts(p, &mut starts);
     let words = least(stacks::words_of(read::word(p, 0)), rooms::STACK);
     let m = least(read::word(p, 1) as usize, rooms::MAP);
