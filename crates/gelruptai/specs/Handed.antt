@@ -6,7 +6,8 @@ use Rattle.turns.specs.declared.Walked.{Walked}
 use Rattle.turns.specs.Walks.{Leaves, given, walked, answer_of}
 use Rattle.walk.specs.Starts.{places_of}
 use Rattle.jump_tables.specs.declared.Table.{Table}
-use Rattle.jump_tables.specs.Tables.{Outcome, table_of}
+use Rattle.jump_tables.specs.declared.TableError.{TableError}
+use Rattle.jump_tables.specs.Tables.{Outcome, count_of, bytes_of, table_of}
 use Rattle.image_file.specs.declared.Fault.{Fault}
 use Rattle.image_file.specs.declared.Head.{Head}
 use Rattle.image_file.specs.Reading.{data_from}
@@ -51,8 +52,8 @@ table_on ws bs section address size g entries =
     table_of ws bs (record { section = section; address = address }) size (place_in g 4) (maybe_in g 6) entries
 
 -- entries, bytes passed
-abbrev pub table_counts : Table → List ℕ
-table_counts t = t.count ∷ t.size ∷ []
+abbrev pub table_counts : Result Table TableError → List ℕ
+table_counts t = count_of t ∷ bytes_of t ∷ []
 
 -- a file's nine words, and: image words, starts, where the data begins, data bytes; or where something is wrong
 abbrev pub file_given : Result Head Fault → List ℕ → List ℕ

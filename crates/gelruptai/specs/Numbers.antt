@@ -3,8 +3,9 @@
 use Rattle.std.specs.Prelude.{ℕ, Option, Some, None, Result, Ok, Err}
 use Rattle.faults.specs.declared.Rule.{Rule}
 use Rattle.faults.specs.declared.Rule.TheVariants as rule
-use Rattle.jump_tables.specs.declared.TableAnswer.{TableAnswer}
-use Rattle.jump_tables.specs.declared.TableAnswer.TheVariants as answer
+use Rattle.jump_tables.specs.declared.Table.{Table}
+use Rattle.jump_tables.specs.declared.TableError.{TableError}
+use Rattle.jump_tables.specs.Tables.{error_number}
 use Rattle.report.specs.declared.WriteError.{WriteError}
 use Rattle.image_file.specs.declared.Wrong.{Wrong}
 use Rattle.image_file.specs.declared.Wrong.TheVariants as wrong
@@ -29,13 +30,9 @@ rule_number (Some rule.SymbolOrder) = 12
 rule_number (Some rule.Data) = 13
 
 -- document 01's numbers of a table's refusals
-abbrev pub table_number : TableAnswer → ℕ
-table_number answer.Broken = 1
-table_number answer.RelocationError = 7
-table_number answer.Ragged = 8
-table_number answer.PointsNowhere = 9
-table_number answer.Full = 10
-table_number answer.Read = 0
+abbrev pub table_number : Result Table TableError → ℕ
+table_number (Ok t) = 0
+table_number (Err e) = error_number e
 
 -- a report's length, 0 where none was written
 abbrev pub length_of : Result ℕ WriteError → ℕ

@@ -68,8 +68,7 @@ pub fn gelruptai_walk(
         im, data, starts, two, thirteen, from, upto, map, stack, entries,
     );
     *counts = [w.stepped, w.begun, w.read, w.not_read, w.held as u64];
-    let answer = w.answer;
-    walk_number(answer)
+    walk_number(w.answer)
 }
 
 // `jump_tables::uniq_jump_table_entries` for the table at a place: 0, 1, 7, 8, 9, 10. Of `given` the function's bounds are read.
@@ -84,7 +83,7 @@ pub fn gelruptai_table(
     entries: &mut [u64],
     counts: &mut [u64; 2],
 ) -> u32
-    ensures value { result ≡ table_number (table_on im.now «data».now section address size given.now entries.old).table.answer }
+    ensures value { result ≡ table_number (table_on im.now «data».now section address size given.now entries.old).table }
     ensures counts { counts.new ≡ table_counts (table_on im.now «data».now section address size given.now entries.old).table }
     ensures entries { entries.new ≡ (table_on im.now «data».now section address size given.now entries.old).keys }
 {
@@ -92,9 +91,8 @@ pub fn gelruptai_table(
     let upto = maybe_in(given, 6);
     let at = SectionAddress { section, address };
     let t = jump_tables::uniq_jump_table_entries(im, data, at, size, from, upto, entries);
-    *counts = [t.count as u64, t.size as u64];
-    let answer = t.answer;
-    table_number(answer)
+    *counts = numbers::table_counts(t);
+    table_number(t)
 }
 
 // `report::write_report`: 0, 1, 4, 10. `written` becomes the report's length, 0 where it is refused.

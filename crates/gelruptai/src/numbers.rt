@@ -2,37 +2,39 @@
 ghost use Rattle.std.specs.Prelude.{◌≡◌};
 ghost use Rattle.turns.specs.Walks.{answer_of};
 ghost use Rattle.report.specs.Answers.{write_number, read_number};
+ghost use Rattle.gelruptai.specs.Handed.{table_counts};
 ghost use Rattle.gelruptai.specs.Numbers.{rule_number, table_number, wrong_number};
 
 use faults::Rule;
 use image_file::Wrong;
-use jump_tables::TableAnswer;
+use jump_tables::{Table, TableError};
 use report::{ReadError, WriteError};
-use turns::WalkAnswer;
+use turns::WalkError;
 
-pub(crate) fn walk_number(a: WalkAnswer) -> u32
+pub(crate) fn walk_number(a: Result<(), WalkError>) -> u32
     ensures { result ≡ answer_of a }
 {
     match a {
-        WalkAnswer::Done => 0,
-        WalkAnswer::BrokenImage => 1,
-        WalkAnswer::NotCode => 2,
-        WalkAnswer::Misaligned => 3,
-        WalkAnswer::MapTooSmall => 4,
-        WalkAnswer::StackFull => 5,
+        Ok(_) => 0,
+        Err(e) => u32::from(e),
     }
 }
 
-pub(crate) fn table_number(a: TableAnswer) -> u32
-    ensures { result ≡ table_number a }
+pub(crate) fn table_number(t: Result<Table, TableError>) -> u32
+    ensures { result ≡ table_number t }
 {
-    match a {
-        TableAnswer::Broken => 1,
-        TableAnswer::RelocationError => 7,
-        TableAnswer::Ragged => 8,
-        TableAnswer::PointsNowhere => 9,
-        TableAnswer::Full => 10,
-        TableAnswer::Read => 0,
+    match t {
+        Ok(_) => 0,
+        Err(e) => u32::from(e),
+    }
+}
+
+pub(crate) fn table_counts(t: Result<Table, TableError>) -> [u64; 2]
+    ensures { result ≡ table_counts t }
+{
+    match t {
+        Ok(t) => [t.count as u64, t.size as u64],
+        Err(_) => [0, 0],
     }
 }
 

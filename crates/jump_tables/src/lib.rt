@@ -3,7 +3,7 @@
 #![tactic(auto)]
 
 ghost use Rattle.std.specs.Prelude.{◌≡◌};
-ghost use Rattle.jump_tables.specs.Tables.{table_of};
+ghost use Rattle.jump_tables.specs.Tables.{error_number, table_of};
 
 use image::{Judged, check_image};
 use places::{MaybeAddress, SectionAddress};
@@ -44,6 +44,20 @@ pub enum TableError {
     Ragged,
     PointsNowhere,
     Full,
+}
+
+impl From<TableError> for u32 {
+    ghost from_gives = { λ e n. n ≡ error_number e };
+
+    fn from(e: TableError) -> u32 {
+        match e {
+            TableError::Broken => 1,
+            TableError::RelocationError => 7,
+            TableError::Ragged => 8,
+            TableError::PointsNowhere => 9,
+            TableError::Full => 10,
+        }
+    }
 }
 
 // How many entries a table has, and the bytes passed.

@@ -20,7 +20,8 @@ use tables::take_table;
 use targets::{is_way, is_word, stays_in};
 use vm::{BranchTarget, GprValue};
 
-// What pushing leaves: how many states wait, whether a push was refused (5), tables read and not read.
+// What pushing leaves: how many states wait, whether a push was refused (5), tables read and not read. A flag and no Result:
+// the states and the counts stand where a push was refused too.
 #[derive(Clone, Copy)]
 pub struct Taken {
     pub held: usize,

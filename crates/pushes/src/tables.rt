@@ -14,7 +14,7 @@ use jump_tables::table_in;
 use places::{MaybeAddress, RelocationTarget, SectionAddress};
 use vm::TableSize;
 
-// The place that an entry of a table names.
+// The place that an entry of a table names. No From: both types are other crates' own.
 pub fn place_of(key: u64) -> SectionAddress
     ensures { result ≡ place_of key }
 {
@@ -48,7 +48,7 @@ pub fn push_keys(
     nothing(held)
 }
 
-// A size as a number, 0 for none.
+// A size as a number, 0 for none. No From: both types are other crates' own.
 fn size_in(size: TableSize) -> u32
     ensures { result ≡ size_in size }
 {

@@ -4,7 +4,7 @@ use decoder::Op;
 use exchange::case::{Case, Words};
 use exchange::line::Line;
 use exchange::{file, results};
-use jump_tables::{Table, TableAnswer};
+use jump_tables::{Table, TableError};
 use words::{field, mask};
 
 // Writes the answer into the line.
@@ -78,17 +78,6 @@ fn step(case: Case, line: &mut Line) {
     results::stepped(line, r, before);
 }
 
-fn table_answer(a: TableAnswer) -> u32 {
-    match a {
-        TableAnswer::Broken => 1,
-        TableAnswer::RelocationError => 7,
-        TableAnswer::Ragged => 8,
-        TableAnswer::PointsNowhere => 9,
-        TableAnswer::Full => 10,
-        TableAnswer::Read => 0,
-    }
-}
-
 // The room for a table's entries is the bound that docs/FORMATS.md gives for every file.
 fn table(case: Case, line: &mut Line) {
     let mut room = [0u64; 2048];
@@ -102,7 +91,7 @@ fn table(case: Case, line: &mut Line) {
     print_table(t, entries, line);
 }
 
-fn table_in(case: Case, asked: &mut Words, entries: &mut [u64]) -> Table {
+fn table_in(case: Case, asked: &mut Words, entries: &mut [u64]) -> Result<Table, TableError> {
     let table = asked.place();
     let size = asked.word();
     let start = asked.place();
@@ -110,10 +99,14 @@ fn table_in(case: Case, asked: &mut Words, entries: &mut [u64]) -> Table {
     jump_tables::uniq_jump_table_entries(case.image, case.data, table, size, start, end, entries)
 }
 
-fn print_table(t: Table, entries: &[u64], line: &mut Line) {
-    line.word(table_answer(t.answer));
-    line.count(t.count);
-    line.word(t.size);
+fn print_table(t: Result<Table, TableError>, entries: &[u64], line: &mut Line) {
+    let (answer, count, size) = match t {
+        Ok(t) => (0, t.count, t.size),
+        Err(e) => (u32::from(e), 0, 0),
+    };
+    line.word(answer);
+    line.count(count);
+    line.word(size);
     for key in entries {
         line.long(*key);
     }

@@ -1,6 +1,9 @@
-// The walk's meaning, in specs/, and its laws, in proofs/: one turn, the walk as its repetition, and its history. No code.
+// The walk's meaning, in specs/, and its laws, in proofs/: one turn, the walk as its repetition, and its history.
 // Crate `walk` does what is defined here.
 #![tactic(auto)]
+
+ghost use Rattle.std.specs.Prelude.{◌≡◌};
+ghost use Rattle.turns.specs.Walks.{error_number};
 
 // Why a walk is refused, or stopped before its end: document 01's 1, 2, 3, 4; 5 stops it.
 #[derive(Clone, Copy, PartialEq, Eq)]
@@ -10,6 +13,20 @@ pub enum WalkError {
     Misaligned,
     MapTooSmall,
     StackFull,
+}
+
+impl From<WalkError> for u32 {
+    ghost from_gives = { λ e n. n ≡ error_number e };
+
+    fn from(e: WalkError) -> u32 {
+        match e {
+            WalkError::BrokenImage => 1,
+            WalkError::NotCode => 2,
+            WalkError::Misaligned => 3,
+            WalkError::MapTooSmall => 4,
+            WalkError::StackFull => 5,
+        }
+    }
 }
 
 // Whether the walk ran to its end; how many instructions were stepped, blocks begun, tables read and not read; how many states still wait.

@@ -27,7 +27,7 @@ use vm::MaybeBase;
 // How many entries a table may have in a walk.
 pub const TABLE_ROOM: usize = 1024;
 
-// How a walk begins: how many starts wait, and whether a push was refused (5).
+// How a walk begins: how many starts wait, and whether a push was refused (5); a flag, since those before it wait then too.
 #[derive(Clone, Copy)]
 pub struct Begun {
     pub held: usize,

@@ -9,7 +9,7 @@ use places::{MaybeAddress, SectionAddress};
 use read::Words;
 use std::io;
 use streams::{read_full, room};
-use turns::{WalkAnswer, Walked};
+use turns::Walked;
 use vm::MaybeBase;
 
 // What a walk is given.
@@ -32,7 +32,7 @@ fn repeat(
     entries: &mut [u64; 1024],
 ) -> Walked {
     let mut last = Walked {
-        answer: WalkAnswer::Done,
+        answer: Ok(()),
         stepped: 0,
         begun: 0,
         read: 0,

@@ -1,17 +1,6 @@
 // The walk's answer as a line: words in eight hex digits, a space between them.
 use std::io;
-use turns::{WalkAnswer, Walked};
-
-fn number(a: WalkAnswer) -> u32 {
-    match a {
-        WalkAnswer::Done => 0,
-        WalkAnswer::BrokenImage => 1,
-        WalkAnswer::NotCode => 2,
-        WalkAnswer::Misaligned => 3,
-        WalkAnswer::MapTooSmall => 4,
-        WalkAnswer::StackFull => 5,
-    }
-}
+use turns::Walked;
 
 fn word(rt: &impl Print, w: u32) -> io::Result<()> {
     print!(rt; "{w:08x} ")
@@ -24,7 +13,7 @@ fn long(rt: &impl Print, n: u64) -> io::Result<()> {
 
 // Answer, counts, the map's first n words, and how many states wait: a walk that is measured leaves none.
 pub(crate) fn answer(rt: &impl Print, r: Walked, map: &[u32], n: usize) -> io::Result<()> {
-    word(rt, number(r.answer))?;
+    word(rt, r.answer.map_or_else(u32::from, |_| 0))?;
     long(rt, r.stepped)?;
     long(rt, r.begun)?;
     long(rt, r.read)?;
