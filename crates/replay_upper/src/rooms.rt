@@ -1,12 +1,4 @@
-// A case's buffers, and their sizes, by the bounds that docs/FORMATS.md gives for every file.
-ghost use Rattle.std.specs.Prelude.{◌≡◌, length};
-
-// N of one number. A function of its own: a caller that writes so large an array itself takes the check minutes.
-pub(crate) fn filled<T: Copy, const N: usize>(x: T) -> [T; N]
-    ensures { N ≡ length result }
-{
-    [x; N]
-}
+// The sizes of a case's buffers, by the bounds that docs/FORMATS.md gives for every file.
 
 // The words of the visited map.
 pub(crate) const MAP: usize = 8300;
