@@ -5,7 +5,7 @@
 ghost use Rattle.std.specs.Prelude.{◌≡◌, ◌^◌, ◌<◌, true, length};
 ghost use Rattle.image.specs.Rules.{sound};
 
-use image::Judged;
+use image::BrokenImage;
 use image_file::Head;
 use std::io;
 use std::io::Read;
@@ -84,8 +84,8 @@ fn judge<R: Print + Eprint + Env + Files>(
     let im = &im[..words];
     let starts = &starts[..count];
     match image::check_image(im, data) {
-        Judged::Broken => refusals::broken_image(rt, im, data.len()),
-        Judged::Sound => {
+        Err(_) => refusals::broken_image(rt, im, data.len()),
+        Ok(()) => {
             let file = SoundFile {
                 im,
                 data,

@@ -5,7 +5,7 @@ ghost use Rattle.image.specs.Rules.{tables_sound};
 use crate::which;
 use faults::Rule;
 use image_file::{Fault, Wrong};
-use lookups::CodePlace;
+use lookups::PlaceError;
 use places::SectionAddress;
 use std::io;
 
@@ -80,12 +80,12 @@ pub(crate) fn bad_start(rt: &impl Print, im: &[u32], starts: &[u64]) -> io::Resu
     for (i, key) in starts.iter().enumerate() {
         let p = place_of(*key);
         match lookups::code_place(im, p) {
-            CodePlace::Fine => {}
-            CodePlace::NotCode => {
+            Ok(()) => {}
+            Err(PlaceError::NotCode) => {
                 tell_start(rt, 2, i, p)?;
                 return println!(rt; ": not in a Code section\nanswer 2");
             }
-            CodePlace::Misaligned => {
+            Err(PlaceError::Misaligned) => {
                 tell_start(rt, 3, i, p)?;
                 return println!(rt; ": not a multiple of 4\nanswer 3");
             }

@@ -1,8 +1,8 @@
 // A case, and the pieces of one, read from its words one after the other. A word past their end reads as 0.
 ghost use Rattle.std.specs.Prelude.{◌≡◌, slice_index, drop};
 
-use places::{MaybeAddress, RelocationTarget, SectionAddress};
-use vm::{Cr, Gpr, GprValue, Held, TableSize, VM};
+use places::{RelocationTarget, SectionAddress};
+use vm::{Cr, Gpr, GprValue, Held, VM};
 
 // What a record asks, over the current image.
 #[derive(Clone, Copy)]
@@ -68,12 +68,12 @@ impl<'a> Words<'a> {
         }
     }
 
-    pub fn maybe_place(&mut self) -> MaybeAddress {
+    pub fn maybe_place(&mut self) -> Option<SectionAddress> {
         let mut three = self.part(3);
         if three.word() == 0 {
-            return MaybeAddress::Nowhere;
+            return None;
         }
-        MaybeAddress::At(three.place())
+        Some(three.place())
     }
 
     fn target(&mut self) -> RelocationTarget {
@@ -144,10 +144,10 @@ impl<'a> Words<'a> {
     }
 }
 
-fn size(n: u32) -> TableSize {
+fn size(n: u32) -> Option<u32> {
     if n == 0 {
-        TableSize::Guessed
+        None
     } else {
-        TableSize::Bytes(n)
+        Some(n)
     }
 }

@@ -3,7 +3,6 @@ ghost use Rattle.std.specs.Prelude.{◌≡◌, ◌≤◌, length, IfOk, OnErr};
 
 use crate::case::{Case, Words};
 use crate::line::Line;
-use image::Judged;
 use std::io;
 use std::io::Read;
 use streams::{read_full, room};
@@ -174,8 +173,8 @@ pub fn answer_all<R: Read, F: Fn(Case, &mut Line)>(
 // The answer of kind 1.
 pub fn judged(case: Case, line: &mut Line) {
     match image::check_image(case.image, case.data) {
-        Judged::Sound => line.word(0),
-        Judged::Broken => line.word(1),
+        Ok(()) => line.word(0),
+        Err(_) => line.word(1),
     }
 }
 

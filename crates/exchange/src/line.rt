@@ -2,8 +2,8 @@
 // A line that is full takes no more; the buffer is larger than any answer.
 ghost use Rattle.std.specs.Prelude.{◌≡◌, ◌+◌, ◌<◌, ◌≤◌, length};
 
-use places::{MaybeAddress, MaybeTarget, RelocationTarget, SectionAddress};
-use vm::{BranchTarget, Cr, Gpr, GprValue, TableSize};
+use places::{RelocationTarget, SectionAddress};
+use vm::{BranchTarget, Cr, Gpr, GprValue};
 
 #[derive(Drop)]
 pub struct Line<'a> {
@@ -62,10 +62,10 @@ impl<'a> Line<'a> {
         self.many(&[p.section, p.address]);
     }
 
-    pub fn maybe_place(&mut self, m: MaybeAddress) {
+    pub fn maybe_place(&mut self, m: Option<SectionAddress>) {
         match m {
-            MaybeAddress::Nowhere => self.many(&[0, 0, 0]),
-            MaybeAddress::At(p) => self.many(&[1, p.section, p.address]),
+            None => self.many(&[0, 0, 0]),
+            Some(p) => self.many(&[1, p.section, p.address]),
         }
     }
 
@@ -76,11 +76,11 @@ impl<'a> Line<'a> {
         }
     }
 
-    pub fn maybe_target(&mut self, m: MaybeTarget) {
+    pub fn maybe_target(&mut self, m: Option<RelocationTarget>) {
         match m {
-            MaybeTarget::Missing => self.many(&[0, 0, 0]),
-            MaybeTarget::Known(RelocationTarget::External) => self.many(&[1, 0, 0]),
-            MaybeTarget::Known(RelocationTarget::Address(p)) => {
+            None => self.many(&[0, 0, 0]),
+            Some(RelocationTarget::External) => self.many(&[1, 0, 0]),
+            Some(RelocationTarget::Address(p)) => {
                 self.many(&[2, p.section, p.address])
             }
         }
@@ -129,10 +129,10 @@ impl<'a> Line<'a> {
     }
 }
 
-fn size_of(s: TableSize) -> u32 {
+fn size_of(s: Option<u32>) -> u32 {
     match s {
-        TableSize::Guessed => 0,
-        TableSize::Bytes(n) => n,
+        None => 0,
+        Some(n) => n,
     }
 }
 

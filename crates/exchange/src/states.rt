@@ -1,14 +1,14 @@
 // A state in an answer: the items that differ from the default, their count in front.
+use places::SectionAddress;
 use crate::line::Line;
-use places::MaybeAddress;
 use vm::{Cr, Gpr, GprValue, Held, VM};
 
 fn is_unknown(v: GprValue) -> bool {
     matches!(v, GprValue::Unknown)
 }
 
-fn is_nowhere(m: MaybeAddress) -> bool {
-    matches!(m, MaybeAddress::Nowhere)
+fn is_nowhere(m: Option<SectionAddress>) -> bool {
+    matches!(m, None)
 }
 
 fn is_blank(g: Gpr) -> bool {

@@ -2,7 +2,7 @@
 -- Assumes nothing.
 use Prim.Native.Nat.{ℕ, zero, suc, ◌+◌, ◌-◌, ◌<◌, ◌≤◌}
 use mathlib.Core.Path.{◌≡◌, refl, ◌∙◌}
-use Rattle.std.specs.Prelude.{Ok}
+use Rattle.std.specs.Prelude.{Ok, Result, Err, ⊤, Some}
 use Rattle.std.specs.Result.{result_and}
 use mathlib.Core.Bool.{Bool, true, false, ◌&&◌}
 use mathlib.Core.List.{List}
@@ -14,9 +14,6 @@ use Rattle.image.specs.Laid.{Laid}
 use Rattle.image.specs.Rules.{sound, tables_sound, data_inside}
 use Rattle.image.proofs.SoundTables.{laid, tables_of_sound, data_of_sound}
 use Rattle.lookups.specs.Code.{in_code, code_place}
-use Rattle.lookups.specs.declared.CodePlace.{CodePlace}
-use Rattle.lookups.specs.declared.CodePlace.TheVariants as place
-use Rattle.lookups.specs.declared.MaybeWord.TheVariants as read
 use Rattle.lookups.specs.Bytes.{offset_in, word_at}
 use Rattle.lookups.proofs.CodeBytes.{fine_place, code_bytes, code_word_at}
 use Rattle.slot.proofs.PutLaws.{every_holds}
@@ -30,6 +27,8 @@ use Rattle.executor.specs.declared.Refusal.{Refusal}
 use Rattle.executor.specs.declared.Refusal.TheVariants as refusal
 use Rattle.executor.specs.Judge.{test, on_place, is_word, is_placed, all_words, lawful, verdict_of}
 use Rattle.executor.proofs.Waiting.{all_held}
+use Rattle.lookups.specs.declared.PlaceError.TheVariants as place
+use Rattle.lookups.specs.declared.PlaceError.{PlaceError}
 
 -- a test that refuses nothing has passed
 pub tested : (t : Bool) (why : Refusal) → test t why ≡ Ok tt → t ≡ true
@@ -77,12 +76,12 @@ pub lawful_by : (im : List ℕ) (d : ℕ) (words : List ℕ) (n : ℕ) (ph : Pha
 lawful_by im d words n ph p s st w h = rw (s, stack_valid words n st, w, h)
 
 -- a word is a fine place, and in code
-fine : (x : CodePlace) → on_place x false false true ≡ true → x ≡ place.Fine
-fine place.NotCode e = absurd (cc)
-fine place.Misaligned e = absurd (cc)
-fine place.Fine e = refl
+fine : (x : Result ⊤ PlaceError) → on_place x false false true ≡ true → x ≡ Ok tt
+fine (Err place.NotCode) e = absurd (cc)
+fine (Err place.Misaligned) e = absurd (cc)
+fine (Ok tt) e = refl
 
-pub word_fine : (im : List ℕ) (p : SectionAddress) → is_word im p ≡ true → code_place im p ≡ place.Fine
+pub word_fine : (im : List ℕ) (p : SectionAddress) → is_word im p ≡ true → code_place im p ≡ Ok tt
 word_fine im p e = fine (code_place im p) e
 
 pub word_in_code : (im : List ℕ) (p : SectionAddress) → is_word im p ≡ true → in_code im p ≡ true
@@ -99,11 +98,11 @@ fewer_words im words n m l e =
 
 -- the word that is read at a word's place
 pub word_read : (im bs : List ℕ) (p : SectionAddress) (w : ℕ) → tables_sound im ≡ true → data_inside im (length bs) ≡ true → is_word im p ≡ true
-    → read.Read w ≡ word_at im bs p → w ≡ be32 bs (offset_in im p.section p.address)
+    → Some w ≡ word_at im bs p → w ≡ be32 bs (offset_in im p.section p.address)
 word_read im bs p w t d e r =
     same_read w _ (r ∙ code_word_at im bs p (code_bytes im (length bs) p t d (word_fine im p e)))
   where
-    same_read : (a b : ℕ) → read.Read a ≡ read.Read b → a ≡ b
+    same_read : (a b : ℕ) → Some a ≡ Some b → a ≡ b
     same_read a b q = cc
 
 -- popping leaves a stack

@@ -12,7 +12,6 @@ use Rattle.words.specs.Choice.{pick}
 use Rattle.places.specs.declared.SectionAddress.{SectionAddress}
 use Rattle.image.specs.Rules.{sound, code_words}
 use Rattle.lookups.specs.Code.{in_code}
-use Rattle.lookups.specs.declared.CodePlace.TheVariants as place
 use Rattle.vm.specs.declared.VM.{VM}
 use Rattle.stack.specs.Push.{pushed_words}
 use Rattle.stack.specs.Stack.{entries, room}
@@ -30,6 +29,7 @@ use Rattle.executor.specs.Next.{seen, Top, none, some, on_top, top, Nexted, refu
 use Rattle.executor.specs.Reply.{followed, reply_call}
 use Rattle.executor.specs.Push.{Pushes, pushes, push_call}
 use Rattle.executor.specs.Visits.{visit_call}
+use Rattle.lookups.specs.declared.PlaceError.TheVariants as place
 
 -- an instruction waits
 abbrev pub waits : Phase → Bool
@@ -91,7 +91,7 @@ module _ (im v : List ℕ) (run : Execution) where
   jump_by_lem : (x c a t : Bool) (z w : Execution)
       → Said
       (result_and
-      (result_and (test x refusal.OtherSection) (place_answer (pick c (pick a place.Fine place.Misaligned) place.NotCode)))
+      (result_and (test x refusal.OtherSection) (place_answer (pick c (pick a (Ok tt) (Err place.Misaligned)) (Err place.NotCode))))
       (Ok (pick t z w)))
       (first_failing ((x, 6) ∷ (c, 2) ∷ (a, 3) ∷ []))
   unfolding first_failing
@@ -140,7 +140,7 @@ module _ (im : List ℕ) (d : ℕ) (words : List ℕ) (n : ℕ) (p : SectionAddr
   push_by : (t l c a f : Bool) (k : ℕ) (words' : List ℕ) (q : Pushes)
       → q ≡ on_answer
       (result_and (result_and (test t refusal.BrokenImage) (test l refusal.BadStack))
-      (place_answer (pick c (pick a place.Fine place.Misaligned) place.NotCode)))
+      (place_answer (pick c (pick a (Ok tt) (Err place.Misaligned)) (Err place.NotCode))))
       (λ why. pushes (Err why) words) (λ fine. pick f (pushes (Ok k) words') (pushes (Err refusal.StackFull) words))
       → (number_of q.result ≡ first_failing ((t, 1) ∷ (l, 12) ∷ (c, 2) ∷ (a, 3) ∷ (f, 5) ∷ []))
       × ((number_of q.result ≡ 0 → ⊥) → (kept_of n q.result ≡ n) × (q.words ≡ words))
@@ -177,7 +177,7 @@ visit_number im d v p = by (sound im d) (has_room v (code_words im)) (in_code im
         → number_of
         (result_and
         (result_and (result_and (test s refusal.BrokenImage) (test r refusal.SmallMap))
-        (place_answer (pick c (pick a place.Fine place.Misaligned) place.NotCode)))
+        (place_answer (pick c (pick a (Ok tt) (Err place.Misaligned)) (Err place.NotCode))))
         (Ok (seen im v p)))
         ≡ first_failing ((s, 1) ∷ (r, 4) ∷ (c, 2) ∷ (a, 3) ∷ [])
     by true true true true = refl

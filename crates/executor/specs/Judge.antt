@@ -8,8 +8,6 @@ use Rattle.image.specs.Numbers.{code_kind}
 use Rattle.image.specs.Layout.{sections, section_at}
 use Rattle.image.specs.Rules.{end_of, sound, code_words}
 use Rattle.lookups.specs.Code.{code_place}
-use Rattle.lookups.specs.declared.CodePlace.{CodePlace}
-use Rattle.lookups.specs.declared.CodePlace.TheVariants as place
 use Rattle.stack.specs.Stack.{Entry, entries}
 use Rattle.stack.specs.Valid.{valid_stack}
 use Rattle.visited.specs.Bits.{has_room}
@@ -17,16 +15,18 @@ use Rattle.executor.specs.declared.Phase.{Phase}
 use Rattle.executor.specs.declared.Refusal.{Refusal}
 use Rattle.executor.specs.declared.Refusal.TheVariants as refusal
 use Rattle.executor.specs.Standing.{on_phase}
+use Rattle.lookups.specs.declared.PlaceError.TheVariants as place
+use Rattle.lookups.specs.declared.PlaceError.{PlaceError}
 
 -- a test that answers a refusal where it fails
 abbrev pub test : Bool → Refusal → Result ⊤ Refusal
 test t why = pick t (Ok tt) (Err why)
 
 -- a place judged as one of code, by cases: 2, 3, an aligned code word
-abbrev pub on_place : {B : Type 0} → CodePlace → B → B → B → B
-on_place place.NotCode n m f = n
-on_place place.Misaligned n m f = m
-on_place place.Fine n m f = f
+abbrev pub on_place : {B : Type 0} → Result ⊤ PlaceError → B → B → B → B
+on_place (Err place.NotCode) n m f = n
+on_place (Err place.Misaligned) n m f = m
+on_place (Ok tt) n m f = f
 
 -- an aligned code word
 abbrev pub is_word : List ℕ → SectionAddress → Bool
@@ -63,7 +63,7 @@ abbrev pub room_of : List ℕ → List ℕ → Result ⊤ Refusal
 room_of im v = test (has_room v (code_words im)) refusal.SmallMap
 
 -- 2, 3
-abbrev pub place_answer : CodePlace → Result ⊤ Refusal
+abbrev pub place_answer : Result ⊤ PlaceError → Result ⊤ Refusal
 place_answer x = on_place x (Err refusal.NotCode) (Err refusal.Misaligned) (Ok tt)
 
 abbrev pub word_of : List ℕ → SectionAddress → Result ⊤ Refusal

@@ -7,10 +7,10 @@ ghost use Rattle.stack.specs.Stack.{Stack, entries};
 ghost use Rattle.executor.specs.Judge.{image_of, room_of, word_of, is_word, is_end, is_placed, all_words, lawful, verdict_of};
 
 use crate::{Phase, Refusal};
-use image::Judged;
+use image::BrokenImage;
 use image::numbers::CODE;
 use image::table::{section, section_count};
-use lookups::CodePlace;
+use lookups::PlaceError;
 use places::SectionAddress;
 
 // Refuses a broken image (1).
@@ -18,8 +18,8 @@ pub(crate) fn require_image(im: &[u32], data: &[u8]) -> Result<(), Refusal>
     ensures { result ≡ image_of im.now (length «data».now) }
 {
     match image::check_image(im, data) {
-        Judged::Broken => Err(Refusal::BrokenImage),
-        Judged::Sound => Ok(()),
+        Err(_) => Err(Refusal::BrokenImage),
+        Ok(()) => Ok(()),
     }
 }
 
@@ -41,9 +41,9 @@ pub(crate) fn require_word(im: &[u32], at: SectionAddress) -> Result<(), Refusal
     ensures { result ≡ word_of im.now at }
 {
     match lookups::code_place(im, at) {
-        CodePlace::NotCode => Err(Refusal::NotCode),
-        CodePlace::Misaligned => Err(Refusal::Misaligned),
-        CodePlace::Fine => Ok(()),
+        Err(PlaceError::NotCode) => Err(Refusal::NotCode),
+        Err(PlaceError::Misaligned) => Err(Refusal::Misaligned),
+        Ok(()) => Ok(()),
     }
 }
 

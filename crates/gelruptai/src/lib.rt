@@ -16,7 +16,6 @@ ghost use Rattle.gelruptai.specs.Handed.{walk_on, table_on, stack_words, table_c
 
 pub use given::GIVEN;
 use given::{base_in, maybe_in, place_in, words_of};
-use image::Judged;
 use numbers::{read_number, rule_number, table_number, walk_number, write_number, wrong_number};
 use places::SectionAddress;
 use slot::SLOT_WORDS;
@@ -34,8 +33,8 @@ pub fn gelruptai_code_words(im: &[u32], data: &[u8]) -> usize
     ensures { result ≡ pick (sound im.now (length «data».now)) (code_words im.now) 0 }
 {
     match image::check_image(im, data) {
-        Judged::Broken => 0,
-        Judged::Sound => image::code::code_words(im),
+        Err(_) => 0,
+        Ok(()) => image::code::code_words(im),
     }
 }
 

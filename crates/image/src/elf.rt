@@ -7,10 +7,10 @@ ghost use Rattle.image.specs.Laid.{Laid};
 ghost use Rattle.image.specs.Rules.{elf_index, elf_distinct};
 
 use crate::table::section_count;
-use search::{Found, first};
+use search::first;
 
 // The index of the first section with that elf number, or nothing: the only one, where elf numbers are distinct.
-pub fn elf_index(im: &[u32], elf: u32) -> Found
+pub fn elf_index(im: &[u32], elf: u32) -> Option<usize>
     requires { sections im.now * 6 + 5 < length im.now }
     ensures { result ≡ elf_index im.now elf }
 {

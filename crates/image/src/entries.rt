@@ -14,7 +14,6 @@ use crate::table::{
 };
 use crate::{Bound, Section, Symbol, Unbound};
 use places::{SectionAddress, is_before};
-use search::Found;
 
 // A relocation at an address lies in a section; an Absolute one has all four bytes there.
 pub fn lies_in(s: Section, a: u32, kind: u32) -> bool
@@ -69,8 +68,8 @@ fn unbound_sound(im: &[u32], r: Unbound) -> bool
     ensures { result ≡ unbound_sound im.now r }
 {
     match elf_index(im, r.section) {
-        Found::At(i) => r.kind < 2 && lies_in(section(im, i), r.address, r.kind),
-        Found::Nothing => false,
+        Some(i) => r.kind < 2 && lies_in(section(im, i), r.address, r.kind),
+        None => false,
     }
 }
 

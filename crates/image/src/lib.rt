@@ -57,19 +57,16 @@ pub struct Symbol {
 }
 
 // What judging an image answers.
-#[derive(Clone, Copy)]
-pub enum Judged {
-    Broken,
-    Sound,
-}
+#[derive(Clone, Copy, Debug, PartialEq, Eq)]
+pub struct BrokenImage;
 
 // The judge of rule 1, for any words and bytes: `Broken`, document 01's 1, exactly where a rule is broken. Nothing is touched.
-pub fn check_image(im: &[u32], data: &[u8]) -> Judged
+pub fn check_image(im: &[u32], data: &[u8]) -> Result<(), BrokenImage>
     ensures { result ≡ judged im.now (length «data».now) }
 {
     if judge::tables_sound(im) && sections::data_inside(im, data.len()) {
-        Judged::Sound
+        Ok(())
     } else {
-        Judged::Broken
+        Err(BrokenImage)
     }
 }

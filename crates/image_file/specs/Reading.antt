@@ -1,14 +1,10 @@
 -- What an image file says, read from its bytes: docs/FORMATS.md, "The image file".
 -- Assumes nothing.
-use Rattle.std.specs.Prelude.{ℕ, zero, suc, ◌+◌, ◌*◌, Bool, ◌||◌, List, [], ◌∷◌, length, leb, ltb, eqb, Result, Ok, Err, ⊤}
+use Rattle.std.specs.Prelude.{ℕ, zero, suc, ◌+◌, ◌*◌, Bool, ◌||◌, List, [], ◌∷◌, length, leb, ltb, eqb, Result, Ok, Err, ⊤, Option, Some, None}
 use Rattle.std.proofs.lemmas.List.Edits.{sets}
 use Rattle.words.specs.Choice.{pick}
 use Rattle.words.specs.Bytes.{word_in}
 use Rattle.places.specs.declared.SectionAddress.{SectionAddress}
-use Rattle.places.specs.declared.MaybeAddress.{MaybeAddress}
-use Rattle.places.specs.declared.MaybeAddress.TheVariants as maybe
-use Rattle.vm.specs.declared.MaybeBase.{MaybeBase}
-use Rattle.vm.specs.declared.MaybeBase.TheVariants as base
 use Rattle.image_file.specs.declared.Head.{Head}
 use Rattle.image_file.specs.declared.Wrong.{Wrong}
 use Rattle.image_file.specs.declared.Wrong.TheVariants as wrong
@@ -40,14 +36,14 @@ abbrev pub whole_length : List ℕ → ℕ
 whole_length bs = data_from bs + head_word bs 4
 
 -- a number that may be given, a place, a place that may be given
-abbrev pub base_at : List ℕ → ℕ → MaybeBase
-base_at bs k = pick (eqb (head_word bs k) 1) (base.Value (head_word bs (k + 1))) base.Unset
+abbrev pub base_at : List ℕ → ℕ → Option ℕ
+base_at bs k = pick (eqb (head_word bs k) 1) (Some (head_word bs (k + 1))) None
 
 abbrev pub place_at : List ℕ → ℕ → SectionAddress
 place_at bs k = record { section = head_word bs k; address = head_word bs (k + 1) }
 
-abbrev pub maybe_at : List ℕ → ℕ → MaybeAddress
-maybe_at bs k = pick (eqb (head_word bs k) 1) (maybe.At (place_at bs (k + 1))) maybe.Nowhere
+abbrev pub maybe_at : List ℕ → ℕ → Option SectionAddress
+maybe_at bs k = pick (eqb (head_word bs k) 1) (Some (place_at bs (k + 1))) None
 
 -- the head
 abbrev pub head_of : List ℕ → Head

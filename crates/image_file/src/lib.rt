@@ -5,8 +5,7 @@
 ghost use Rattle.std.specs.Prelude.{◌≡◌, length, drop};
 ghost use Rattle.image_file.specs.Reading.{whole_length, data_from, answered, image_left, starts_left};
 
-use places::{MaybeAddress, SectionAddress};
-use vm::MaybeBase;
+use places::SectionAddress;
 
 pub mod checks;
 pub mod copies;
@@ -48,10 +47,10 @@ pub struct Head {
     pub words: u32,
     pub starts: u32,
     pub bytes: u32,
-    pub two: MaybeBase,
-    pub thirteen: MaybeBase,
+    pub two: Option<u32>,
+    pub thirteen: Option<u32>,
     pub from: SectionAddress,
-    pub upto: MaybeAddress,
+    pub upto: Option<SectionAddress>,
 }
 
 // The file's head, its image words at the start of `im` and its starts, as keys, at the start of `starts`. Where the bytes are

@@ -10,7 +10,6 @@ use lib.Dec.{eqb}
 use Rattle.std.specs.Prelude.{Option, Some, None}
 use Rattle.words.specs.Choice.{pick}
 use Rattle.places.specs.declared.SectionAddress.{SectionAddress}
-use Rattle.places.specs.declared.MaybeAddress.{MaybeAddress}
 use Rattle.image.specs.Layout.{section_at}
 use Rattle.image.specs.Rules.{end_of}
 use Rattle.lookups.specs.Bytes.{word_at}
@@ -69,7 +68,7 @@ reading_by_word ws bs cs Sized q e = rw e
 reading_by_word ws bs cs (Guessed start e₀) q e = rw e
 
 -- two buffers that agree on the words examined of a table give one outcome
-module _ (ws bs cs : List ℕ) (p : SectionAddress) (n : ℕ) (start : SectionAddress) (e : MaybeAddress) (room : ℕ) where
+module _ (ws bs cs : List ℕ) (p : SectionAddress) (n : ℕ) (start : SectionAddress) (e : Option SectionAddress) (room : ℕ) where
   agree : (how : How) (m : ℕ) → ((k : ℕ) → k < examined (word_reading ws bs how p) m 0 → word_at ws bs (word_place p k) ≡ word_at ws cs (word_place p k))
       → read_off (words_passed ws bs how p m) room ≡ read_off (words_passed ws cs how p m) room
   agree how m h = outcome_by_examined (word_reading ws bs how p) (word_reading ws cs how p) m room (λ k l. reading_by_word ws bs cs how (word_place p k) (h k l))

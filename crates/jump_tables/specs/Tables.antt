@@ -3,7 +3,6 @@
 use Rattle.std.specs.Prelude.{ℕ, zero, suc, ◌+◌, ◌-◌, ◌*◌, ◌/◌, ◌%◌, ◌^◌, ◌<◌, min, ◌≡◌, Bool, ◌&&◌, ◌||◌, Option, Some, None, Result, Ok, Err, List, [], ◌∷◌, ◌++◌, length, replicate, leb, ltb, eqb}
 use Rattle.words.specs.Choice.{pick}
 use Rattle.places.specs.declared.SectionAddress.{SectionAddress}
-use Rattle.places.specs.declared.MaybeAddress.{MaybeAddress}
 use Rattle.image.specs.Numbers.{data_kind, read_only_kind}
 use Rattle.image.specs.Layout.{sections, section_at}
 use Rattle.image.specs.Rules.{holds, end_of, sound}
@@ -136,7 +135,7 @@ sized_table ws bs p n room =
     (refused error.Ragged room)
 
 -- a guess passes at most the words that the section has, and one more stops it
-unfoldable pub guessed_table : List ℕ → List ℕ → SectionAddress → SectionAddress → MaybeAddress → ℕ → Outcome
+unfoldable pub guessed_table : List ℕ → List ℕ → SectionAddress → SectionAddress → Option SectionAddress → ℕ → Outcome
 guessed_table ws bs p start e room =
     read_off (words_passed ws bs (Guessed start e) p ((end_of (section_at ws p.section) - p.address) / 4 + 1)) room
 
@@ -151,14 +150,14 @@ abbrev pub size_of : List ℕ → SectionAddress → ℕ → ℕ
 size_of ws p n = pick (eqb (known_size ws p) 0) n (known_size ws p)
 
 -- of a sound image: outside a Data or ReadOnly section no entries and size 0
-unfoldable pub table_in : List ℕ → List ℕ → SectionAddress → ℕ → SectionAddress → MaybeAddress → ℕ → Outcome
+unfoldable pub table_in : List ℕ → List ℕ → SectionAddress → ℕ → SectionAddress → Option SectionAddress → ℕ → Outcome
 table_in ws bs p n start e room =
     pick (is_table ws p)
     (pick (eqb (size_of ws p n) 0) (guessed_table ws bs p start e room) (sized_table ws bs p (size_of ws p n) room))
     (record { table = Ok (record { count = 0; size = 0 }); keys = replicate room 0 })
 
 -- of any image: 1 leaves the entry buffer as it was
-unfoldable pub table_of : List ℕ → List ℕ → SectionAddress → ℕ → SectionAddress → MaybeAddress → List ℕ → Outcome
+unfoldable pub table_of : List ℕ → List ℕ → SectionAddress → ℕ → SectionAddress → Option SectionAddress → List ℕ → Outcome
 table_of ws bs p n start e buffer =
     pick (sound ws (length bs)) (table_in ws bs p n start e (length buffer))
     (record { table = Err error.Broken; keys = buffer })

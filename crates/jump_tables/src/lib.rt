@@ -5,8 +5,8 @@
 ghost use Rattle.std.specs.Prelude.{◌≡◌};
 ghost use Rattle.jump_tables.specs.Tables.{error_number, table_of};
 
-use image::{Judged, check_image};
-use places::{MaybeAddress, SectionAddress};
+use image::check_image;
+use places::SectionAddress;
 
 pub mod keys;
 pub mod readings;
@@ -19,7 +19,7 @@ pub use tables::table_in;
 #[derive(Clone, Copy)]
 pub enum How {
     Sized,
-    Guessed(SectionAddress, MaybeAddress),
+    Guessed(SectionAddress, Option<SectionAddress>),
 }
 
 // What a word of a table means.
@@ -77,14 +77,14 @@ pub fn uniq_jump_table_entries(
     at: SectionAddress,
     size: u32,
     start: SectionAddress,
-    end: MaybeAddress,
+    end: Option<SectionAddress>,
     entries: &mut [u64],
 ) -> Result<Table, TableError>
     ensures value { result ≡ (table_of im.now bytes.now at size start end entries.old).table }
     ensures buffer { entries.new ≡ (table_of im.now bytes.now at size start end entries.old).keys }
 {
     match check_image(im, bytes) {
-        Judged::Broken => Err(TableError::Broken),
-        Judged::Sound => table_in(im, bytes, at, size, start, end, entries),
+        Err(_) => Err(TableError::Broken),
+        Ok(()) => table_in(im, bytes, at, size, start, end, entries),
     }
 }

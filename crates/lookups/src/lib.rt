@@ -25,26 +25,17 @@ pub enum Wanted {
 }
 
 // What a relocation lookup answers.
-#[derive(Clone, Copy)]
-pub enum Relocation {
-    Nothing,
-    Error,
-    To(RelocationTarget),
-}
+pub type Relocation = Result<Option<RelocationTarget>, RelocationError>;
 
-// A word that was read, or none.
-#[derive(Clone, Copy)]
-pub enum MaybeWord {
-    Missing,
-    Read(u32),
-}
+// A relocation that does not name a place.
+#[derive(Clone, Copy, Debug, PartialEq, Eq)]
+pub struct RelocationError;
 
 // A place judged as one of code.
-#[derive(Clone, Copy)]
-pub enum CodePlace {
+#[derive(Clone, Copy, Debug, PartialEq, Eq)]
+pub enum PlaceError {
     NotCode,
     Misaligned,
-    Fine,
 }
 
 // The number of a Code word, counted in section order: its bit in a visited map. Never an address.

@@ -5,10 +5,10 @@ ghost use Rattle.image.specs.Rules.{tables_sound};
 ghost use Rattle.lookups.specs.Sections.{at_address, within};
 
 use image::table::section_count;
-use search::{Found, first};
+use search::first;
 
 // The first section that holds the address, or none. It reads two words a section.
-pub fn at_address(im: &[u32], a: u32) -> Found
+pub fn at_address(im: &[u32], a: u32) -> Option<usize>
     requires { tables_sound im.now ≡ true }
     ensures { result ≡ at_address im.now a }
 {

@@ -19,20 +19,6 @@ pub enum RelocationTarget {
     Address(SectionAddress),
 }
 
-// A place, or none.
-#[derive(Clone, Copy)]
-pub enum MaybeAddress {
-    Nowhere,
-    At(SectionAddress),
-}
-
-// A target, or none.
-#[derive(Clone, Copy)]
-pub enum MaybeTarget {
-    Missing,
-    Known(RelocationTarget),
-}
-
 // The place n bytes on: only the address part changes, modulo 2^32.
 pub fn offset(p: SectionAddress, n: u32) -> SectionAddress
     ensures { result ≡ moved p n }

@@ -1,5 +1,6 @@
 -- What a word that leaves asks was done: by how it leaves.
 -- Assumes words that hold a stack, and an entry buffer of the walk's length.
+use Rattle.std.specs.Prelude.{Option}
 use Prim.Native.Nat.{ℕ}
 use mathlib.Core.Path.{◌≡◌, refl, sym, ap, ◌∙◌, subst}
 use mathlib.Core.Bool.{true, false}
@@ -8,7 +9,6 @@ use mathlib.Core.Logic.{◌⊎◌, inl, inr}
 use native.Mathlib.Omega.{arith}
 use lib.ListN.{length}
 use Rattle.places.specs.declared.SectionAddress.{SectionAddress}
-use Rattle.places.specs.declared.MaybeAddress.{MaybeAddress}
 use Rattle.places.specs.declared.RelocationTarget.TheVariants as target
 use Rattle.vm.specs.declared.VM.{VM}
 use Rattle.vm.specs.declared.BranchTarget.{BranchTarget}
@@ -62,7 +62,7 @@ leaving_inside at s t f ys e = by t f (sym (leaving_jump at s t) ∙ e)
         omega arith
     by (branch.JumpTable t z) f e = let o : ◌≡◌ {A = ℕ} 0 1 = cc in omega arith
 
-module _ (ws bs : List ℕ) (from : SectionAddress) (upto : MaybeAddress) (words : List ℕ) (n : ℕ) (buffer : List ℕ) (at : SectionAddress) (l : Leave) (s : VM) where
+module _ (ws bs : List ℕ) (from : SectionAddress) (upto : Option SectionAddress) (words : List ℕ) (n : ℕ) (buffer : List ℕ) (at : SectionAddress) (l : Leave) (s : VM) where
   -- the ways that it leaves by were taken
   pub taken_by : {words' buffer' : List ℕ} {r : Taken} (xs : List (Way SectionAddress VM Asked)) → leaving l at s ≡ leave xs → length buffer' ≡ table_room
       → Takes (take_ways (ground_of ws bs from upto (room (length words))) at xs) words n buffer words' buffer' r

@@ -7,11 +7,9 @@ use mathlib.Core.List.{List, [], map}
 use native.Mathlib.Omega.{arith}
 use lib.ListN.{length, get_or, take}
 use Rattle.places.specs.declared.SectionAddress.{SectionAddress}
-use Rattle.places.specs.declared.MaybeAddress.{MaybeAddress}
-use Rattle.places.specs.declared.MaybeAddress.TheVariants.{Nowhere}
 use Rattle.lookups.specs.Code.{code_place}
 use Rattle.vm.specs.declared.VM.{VM}
-use Rattle.std.specs.Prelude.{Option, is_some, unwrap_or}
+use Rattle.std.specs.Prelude.{Option, is_some, unwrap_or, None}
 use Rattle.stack.specs.Stack.{Stack, room}
 use Rattle.stack.specs.Push.{Pushes}
 use Rattle.turns.specs.Turns.{push_at, push_each}
@@ -40,13 +38,13 @@ module _ (ws words : List ℕ) (n : ℕ) (q : SectionAddress) (s : VM) (st : Sta
 
 -- the same over a ground with as many slots
 pub on_ground : {ws words : List ℕ} {n : ℕ} {q : SectionAddress} {s : VM} {words' : List ℕ} {r : Taken} {full : Bool} → PushedAt ws words n q s words' r
-    → (slots : ℕ) → room (length words) ≡ slots → r.full ≡ full → (bs : List ℕ) (from : SectionAddress) (upto : MaybeAddress) (buffer : List ℕ)
+    → (slots : ℕ) → room (length words) ≡ slots → r.full ≡ full → (bs : List ℕ) (from : SectionAddress) (upto : Option SectionAddress) (buffer : List ℕ)
     → Piles (push_at (ground_of ws bs from upto slots) q s) words n buffer words' r.held buffer full 0 0
 on_ground h slots e f bs from upto buffer = rw (← e, ← f) (h.piles bs from upto buffer)
 
 -- the first j keys are pushed, and no push was refused
 pub record KeysIn (ws words : List ℕ) (n : ℕ) (keys : List ℕ) (s : VM) (words' : List ℕ) (n' j : ℕ) : Type 0 where
-  pub piles : (bs : List ℕ) (from : SectionAddress) (upto : MaybeAddress) (buffer : List ℕ)
+  pub piles : (bs : List ℕ) (from : SectionAddress) (upto : Option SectionAddress) (buffer : List ℕ)
       → Piles (push_each (ground_of ws bs from upto (room (length words))) s (places_from keys 0 j)) words n buffer words' n' buffer false 0 0
   pub held : Stack words' n'
   pub words_length : length words' ≡ length words
@@ -75,7 +73,7 @@ module _ (ws words : List ℕ) (n : ℕ) (keys : List ℕ) (s : VM) where
 
     -- one more
     module _ {words'' : List ℕ} {r : Taken} (low : j < length keys) (p : PushedAt ws words' n' (place_of (get_or keys j 0)) s words'' r) where
-      next : (full : Bool) → r.full ≡ full → (bs : List ℕ) (from : SectionAddress) (upto : MaybeAddress) (buffer : List ℕ)
+      next : (full : Bool) → r.full ≡ full → (bs : List ℕ) (from : SectionAddress) (upto : Option SectionAddress) (buffer : List ℕ)
           → Piles (push_each (ground_of ws bs from upto (room (length words))) s (places_from keys 0 (j + 1))) words n buffer words'' r.held buffer full 0 0
       next full f bs from upto buffer =
           piles_keys_more (ground_of ws bs from upto (room (length words))) s keys j low (h.piles bs from upto buffer)
@@ -83,7 +81,7 @@ module _ (ws words : List ℕ) (n : ℕ) (keys : List ℕ) (s : VM) where
 
       pub keys_more : r.full ≡ false → KeysIn ws words n keys s words'' r.held (j + 1)
       keys_more f =
-          let one = p.piles [] (place_of (get_or keys j 0)) Nowhere [] in
+          let one = p.piles [] (place_of (get_or keys j 0)) None [] in
           record { piles = next false f; held = one.held; words_length = one.words_length ∙ h.words_length }
 
       -- a push was refused: the rest is passed over

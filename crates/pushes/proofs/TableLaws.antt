@@ -7,10 +7,8 @@ use mathlib.Core.List.{List, []}
 use lib.Dec.{eqb}
 use lib.ListN.{length}
 use Rattle.places.specs.declared.SectionAddress.{SectionAddress}
-use Rattle.places.specs.declared.MaybeAddress.{MaybeAddress}
 use Rattle.places.specs.declared.RelocationTarget.TheVariants as target
 use Rattle.vm.specs.declared.VM.{VM}
-use Rattle.vm.specs.declared.TableSize.{TableSize}
 use Rattle.stack.specs.Stack.{Stack, room}
 use Rattle.jump_tables.specs.declared.Table.{Table}
 use Rattle.jump_tables.specs.declared.TableError.{TableError}
@@ -25,10 +23,10 @@ use Rattle.pushes.specs.declared.Taken.{Taken}
 use Rattle.pushes.specs.Takes.{none, unread, PushedKeys, TakenTable}
 use Rattle.pushes.proofs.PlaceLaws.{keys_start, keys_done}
 use Rattle.turns.proofs.SoundGround.{table_few}
-use Rattle.std.specs.Prelude.{Result, Ok, Err}
+use Rattle.std.specs.Prelude.{Result, Ok, Err, Option}
 
 -- a table has no more entries than room
-pub entries_fit : (ws bs : List ℕ) (p : SectionAddress) (size : ℕ) (from : SectionAddress) (upto : MaybeAddress) (n : ℕ) {r : Result Table TableError} {t : Table}
+pub entries_fit : (ws bs : List ℕ) (p : SectionAddress) (size : ℕ) (from : SectionAddress) (upto : Option SectionAddress) (n : ℕ) {r : Result Table TableError} {t : Table}
     → r ≡ (table_in ws bs p size from upto n).table → r ≡ Ok t → t.count ≤ n
 entries_fit ws bs p size from upto n e f = rw (← e, f) at (table_few ws bs p size from upto n)
 
@@ -40,7 +38,7 @@ refused_not_read error.Ragged = refl
 refused_not_read error.PointsNowhere = refl
 refused_not_read error.Full = refl
 
-module _ (ws bs : List ℕ) (from : SectionAddress) (upto : MaybeAddress) (words : List ℕ) (n : ℕ) (buffer : List ℕ) (st : Stack words n) (size : TableSize) (s : VM) where
+module _ (ws bs : List ℕ) (from : SectionAddress) (upto : Option SectionAddress) (words : List ℕ) (n : ℕ) (buffer : List ℕ) (st : Stack words n) (size : Option ℕ) (s : VM) where
   -- External: not read, and the buffer stays
   pub taken_external : TakenTable ws bs from upto words n buffer target.External size s words buffer (unread n)
   unfolding look_at

@@ -14,7 +14,7 @@ ghost use Rattle.turns.specs.Moves.{table_room};
 ghost use Rattle.pushes.specs.Takes.{none, PushedAt, TakenTarget, TakenWays};
 
 use clones::Made;
-use places::{MaybeAddress, RelocationTarget, SectionAddress};
+use places::{RelocationTarget, SectionAddress};
 use step::Leave;
 use tables::take_table;
 use targets::{is_way, is_word, stays_in};
@@ -70,7 +70,7 @@ fn take_target(
     im: &[u32],
     bytes: &[u8],
     from: SectionAddress,
-    upto: MaybeAddress,
+    upto: Option<SectionAddress>,
     stack: &mut [u32],
     count: usize,
     entries: &mut [u64],
@@ -102,7 +102,7 @@ fn take_jump(
     im: &[u32],
     bytes: &[u8],
     from: SectionAddress,
-    upto: MaybeAddress,
+    upto: Option<SectionAddress>,
     stack: &mut [u32],
     count: usize,
     entries: &mut [u64],
@@ -139,7 +139,7 @@ fn take_call(
     im: &[u32],
     bytes: &[u8],
     from: SectionAddress,
-    upto: MaybeAddress,
+    upto: Option<SectionAddress>,
     stack: &mut [u32],
     count: usize,
     entries: &mut [u64],
@@ -177,7 +177,7 @@ fn take_fork(
     im: &[u32],
     bytes: &[u8],
     from: SectionAddress,
-    upto: MaybeAddress,
+    upto: Option<SectionAddress>,
     stack: &mut [u32],
     count: usize,
     entries: &mut [u64],
@@ -225,7 +225,7 @@ fn take_both(
     im: &[u32],
     bytes: &[u8],
     from: SectionAddress,
-    upto: MaybeAddress,
+    upto: Option<SectionAddress>,
     stack: &mut [u32],
     count: usize,
     entries: &mut [u64],
@@ -263,7 +263,7 @@ pub fn take(
     im: &[u32],
     bytes: &[u8],
     from: SectionAddress,
-    upto: MaybeAddress,
+    upto: Option<SectionAddress>,
     stack: &mut [u32],
     count: usize,
     entries: &mut [u64],

@@ -11,8 +11,7 @@ ghost use Rattle.pushes.specs.Takes.{unread, PushedKeys, TakenTable};
 use crate::{Taken, nothing, push_at};
 use clones::Made;
 use jump_tables::table_in;
-use places::{MaybeAddress, RelocationTarget, SectionAddress};
-use vm::TableSize;
+use places::{RelocationTarget, SectionAddress};
 
 // The place that an entry of a table names. No From: both types are other crates' own.
 pub fn place_of(key: u64) -> SectionAddress
@@ -49,12 +48,12 @@ pub fn push_keys(
 }
 
 // A size as a number, 0 for none. No From: both types are other crates' own.
-fn size_in(size: TableSize) -> u32
+fn size_in(size: Option<u32>) -> u32
     ensures { result ≡ size_in size }
 {
     match size {
-        TableSize::Guessed => 0,
-        TableSize::Bytes(n) => n,
+        None => 0,
+        Some(n) => n,
     }
 }
 
@@ -73,12 +72,12 @@ pub fn take_table(
     im: &[u32],
     bytes: &[u8],
     from: SectionAddress,
-    upto: MaybeAddress,
+    upto: Option<SectionAddress>,
     stack: &mut [u32],
     count: usize,
     entries: &mut [u64],
     t: RelocationTarget,
-    size: TableSize,
+    size: Option<u32>,
     cells: &[u32],
     made: Made,
 ) -> Taken

@@ -6,7 +6,7 @@ ghost use Rattle.lookups.specs.Code.{code_place};
 ghost use Rattle.turns.specs.Moves.{is_fine};
 ghost use Rattle.pushes.specs.Takes.{is_way, stays_in};
 
-use lookups::{CodePlace, code_place};
+use lookups::code_place;
 use places::{RelocationTarget, SectionAddress};
 use vm::BranchTarget;
 
@@ -15,7 +15,7 @@ pub fn is_word(im: &[u32], q: SectionAddress) -> bool
     requires { tables_sound im.now ≡ true }
     ensures { result ≡ is_fine (code_place im.now q) }
 {
-    matches!(code_place(im, q), CodePlace::Fine)
+    matches!(code_place(im, q), Ok(()))
 }
 
 // Whether a target is a word of code or a table: where it is not, no state is made for it.

@@ -9,11 +9,9 @@ use native.Mathlib.Nat.{not-suc-le-zero, add-zero, le_of_suc-le-suc}
 use native.Mathlib.Omega.{arith}
 use lib.ListN.{length, set, length-set}
 use lib.Seq.{sets, length-sets, get_or-set_same, get_or-set_other}
-use Rattle.std.specs.Prelude.{Ok, Err}
+use Rattle.std.specs.Prelude.{Ok, Err, Option, Some}
 use Rattle.words.specs.Choice.{pick}
 use Rattle.search.specs.First.{first_from, first}
-use Rattle.search.specs.declared.Found.{Found}
-use Rattle.search.specs.declared.Found.TheVariants.{At}
 use Rattle.image.specs.declared.Section.{Section}
 use Rattle.image.specs.Layout.{word, sections, section_at}
 use Rattle.image.specs.Rules.{holds, has_elf, elf_index}
@@ -137,7 +135,7 @@ first_from_agrees : (p q : ℕ → Bool) (n m i : ℕ) → ((k : ℕ) → k < n 
 unfolding first_from
 first_from_agrees p q n zero i same l = refl
 first_from_agrees p q n (suc m) i same l =
-    rw (same i (omega arith)) (ap (λ (d : Found). pick (q i) (At i) d) (first_from_agrees p q n m (suc i) same (omega arith)))
+    rw (same i (omega arith)) (ap (λ (d : Option ℕ). pick (q i) (Some i) d) (first_from_agrees p q n m (suc i) same (omega arith)))
 
 -- a search through the words finds what it finds through the records, whatever the test
 pub same_found : (p : Section → ℕ → Bool) (ws : List ℕ) (t : List Section) (v : ℕ) → fits (length t) (length ws) ≡ true

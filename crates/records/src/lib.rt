@@ -9,7 +9,7 @@ ghost use Rattle.records.specs.Written.{with_section, with_sections, written};
 
 use image::Section;
 use lookups::sections::is_within;
-use search::{Found, first};
+use search::first;
 
 // Whether the address a lies in the section.
 pub fn section_holds(s: Section, a: u32) -> bool
@@ -26,14 +26,14 @@ pub fn section_numbered(s: Section, elf: u32) -> bool
 }
 
 // The index of the first record that holds the address a, or none.
-pub fn section_at(t: &[Section], a: u32) -> Found
+pub fn section_at(t: &[Section], a: u32) -> Option<usize>
     ensures { result ≡ record_at t.now a }
 {
     first(t.len(), |i| section_holds(t[i], a))
 }
 
 // The index of the first record with that elf number, or none.
-pub fn section_by_elf(t: &[Section], elf: u32) -> Found
+pub fn section_by_elf(t: &[Section], elf: u32) -> Option<usize>
     ensures { result ≡ record_by_elf t.now elf }
 {
     first(t.len(), |i| section_numbered(t[i], elf))

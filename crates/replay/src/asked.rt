@@ -4,15 +4,13 @@ ghost use Rattle.image.specs.Rules.{tables_sound, data_inside};
 
 use exchange::case::{Case, Words};
 use exchange::line::{Line, first_four};
-use image::Judged;
-use lookups::{CodePlace, MaybeWord, Relocation, Wanted};
-use places::{MaybeTarget, SectionAddress};
-use search::Found;
+use lookups::{PlaceError, Relocation, Wanted};
+use places::SectionAddress;
 
 pub(crate) fn lookup(case: Case, line: &mut Line) {
     match image::check_image(case.image, case.data) {
-        Judged::Broken => line.word(1),
-        Judged::Sound => {
+        Err(_) => line.word(1),
+        Ok(()) => {
             line.word(0);
             in_tables(case.image, case.data, case.words, line);
         }
@@ -38,10 +36,10 @@ fn in_tables(im: &[u32], bytes: &[u8], asked: Words, line: &mut Line)
     }
 }
 
-fn found(f: Found, line: &mut Line) {
+fn found(f: Option<usize>, line: &mut Line) {
     match f {
-        Found::Nothing => line.many(&[0, 0]),
-        Found::At(i) => {
+        None => line.many(&[0, 0]),
+        Some(i) => {
             line.word(1);
             line.count(i);
         }
@@ -58,25 +56,25 @@ fn wanted(n: u32) -> Wanted {
 
 fn relocation(r: Relocation, line: &mut Line) {
     match r {
-        Relocation::Nothing => {
+        Ok(None) => {
             line.word(0);
-            line.maybe_target(MaybeTarget::Missing);
+            line.maybe_target(None);
         }
-        Relocation::Error => {
+        Err(_) => {
             line.word(1);
-            line.maybe_target(MaybeTarget::Missing);
+            line.maybe_target(None);
         }
-        Relocation::To(t) => {
+        Ok(Some(t)) => {
             line.word(0);
-            line.maybe_target(MaybeTarget::Known(t));
+            line.maybe_target(Some(t));
         }
     }
 }
 
-fn word_there(m: MaybeWord, line: &mut Line) {
+fn word_there(m: Option<u32>, line: &mut Line) {
     match m {
-        MaybeWord::Missing => line.many(&[0, 0]),
-        MaybeWord::Read(w) => line.many(&[1, w]),
+        None => line.many(&[0, 0]),
+        Some(w) => line.many(&[1, w]),
     }
 }
 
@@ -97,8 +95,8 @@ fn visited_bit(im: &[u32], place: SectionAddress, line: &mut Line)
 {
     line.count(image::code::code_words(im));
     match lookups::code_place(im, place) {
-        CodePlace::NotCode => line.many(&[2, 0]),
-        CodePlace::Misaligned => line.many(&[3, 0]),
-        CodePlace::Fine => line.many(&[0, lookups::word_number(im, place).0]),
+        Err(PlaceError::NotCode) => line.many(&[2, 0]),
+        Err(PlaceError::Misaligned) => line.many(&[3, 0]),
+        Ok(()) => line.many(&[0, lookups::word_number(im, place).0]),
     }
 }

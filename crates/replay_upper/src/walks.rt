@@ -6,7 +6,6 @@ use exchange::line::Line;
 use exchange::stacks;
 use streams::room;
 use turns::{WalkAnswer, Walked};
-use vm::MaybeBase;
 
 // A case's first words: the slots, how many words the map has and what fills it. The walk's own words follow.
 pub(crate) fn walk(case: Case, line: &mut Line) {
@@ -25,13 +24,13 @@ fn key(p: &mut Words) -> u64 {
     section * 0x1_0000_0000 + address
 }
 
-fn base(p: &mut Words) -> MaybeBase {
+fn base(p: &mut Words) -> Option<u32> {
     let given = p.word() == 1;
     let number = p.word();
     if given {
-        MaybeBase::Value(number)
+        Some(number)
     } else {
-        MaybeBase::Unset
+        None
     }
 }
 

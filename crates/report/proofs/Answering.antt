@@ -9,7 +9,6 @@ use lib.ListN.{length, replicate}
 use lib.Seq.{length-sets}
 use borrow.Author.Tests.{le-leb, lt-leb}
 use Rattle.words.specs.Choice.{pick}
-use Rattle.image.specs.declared.Judged.TheVariants.{Sound, Broken}
 use Rattle.image.specs.Laid as image
 use Rattle.image.specs.Rules.{sound, judged, code_words}
 use Rattle.image.proofs.SoundTables.{SoundTables, sound_tables, tables_of_sound}
@@ -25,20 +24,22 @@ use Rattle.report.specs.Marks.{map_of}
 use Rattle.report.specs.Steps.{Laid}
 use Rattle.report.specs.Answers.{write_answer, write_leaves, read_answer, read_leaves}
 use Rattle.report.proofs.Laying.{laid_at_start}
+use Rattle.image.specs.declared.BrokenImage.{BrokenImage}
+use Rattle.image.specs.Rules.{broken}
 
 -- what the judge of the image says
-by_soundness : (t : Bool) → pick t Sound Broken ≡ Sound → t ≡ true
+by_soundness : (t : Bool) → ◌≡◌ {A = Result ⊤ BrokenImage} (pick t (Ok tt) (Err broken)) (Ok tt) → t ≡ true
 by_soundness true e = refl
 by_soundness false e = let z : ◌≡◌ {A = ℕ} 0 1 = cc in absurd (omega arith)
 
-by_breakage : (t : Bool) → pick t Sound Broken ≡ Broken → t ≡ false
+by_breakage : (t : Bool) → ◌≡◌ {A = Result ⊤ BrokenImage} (pick t (Ok tt) (Err broken)) (Err broken) → t ≡ false
 by_breakage false e = refl
 by_breakage true e = let z : ◌≡◌ {A = ℕ} 0 1 = cc in absurd (omega arith)
 
-pub judged_sound : (im : List ℕ) (n : ℕ) → judged im n ≡ Sound → sound im n ≡ true
+pub judged_sound : (im : List ℕ) (n : ℕ) → judged im n ≡ Ok tt → sound im n ≡ true
 judged_sound im n e = by_soundness (sound im n) e
 
-pub judged_broken : (im : List ℕ) (n : ℕ) → judged im n ≡ Broken → sound im n ≡ false
+pub judged_broken : (im : List ℕ) (n : ℕ) → judged im n ≡ Err broken → sound im n ≡ false
 judged_broken im n e = by_breakage (sound im n) e
 
 -- a sound image's tables are there, and its Code words are few

@@ -6,7 +6,7 @@ ghost use Rattle.std.specs.Prelude.{◌≡◌, length};
 ghost use Rattle.image.specs.Rules.{sound};
 ghost use Rattle.report.specs.Answers.{write_answer, write_leaves, write_error, read_answer, read_leaves, read_error};
 
-use image::Judged;
+use image::BrokenImage;
 
 pub mod read;
 pub mod write;
@@ -72,8 +72,8 @@ fn is_sound(im: &[u32], data: &[u8]) -> bool
     ensures { result ≡ sound im.now (length «data».now) }
 {
     match image::check_image(im, data) {
-        Judged::Broken => false,
-        Judged::Sound => true,
+        Err(_) => false,
+        Ok(()) => true,
     }
 }
 

@@ -4,22 +4,15 @@
 ghost use Rattle.std.specs.Prelude.{◌≡◌, ℕ, ◌<◌, Bool};
 ghost use Rattle.search.specs.First.{first};
 
-// The index of the first match, or none.
-#[derive(Clone, Copy)]
-pub enum Found {
-    Nothing,
-    At(usize),
-}
-
 // The first number below n that passes a test: the test is any that answers as p does.
-pub fn first<F: Fn(usize) -> bool>(n: usize, test: F) -> Found
+pub fn first<F: Fn(usize) -> bool>(n: usize, test: F) -> Option<usize>
     requires { (i : ℕ) → i < n → F.pre test i }
     ensures { (p : ℕ → Bool) → ((i : ℕ) (b : Bool) → i < n → F.post test i b → b ≡ p i) → result ≡ first p n }
 {
     for i in 0..n {
         if test(i) {
-            return Found::At(i);
+            return Some(i);
         }
     }
-    Found::Nothing
+    None
 }

@@ -8,7 +8,6 @@ ghost use Rattle.slot.specs.Layout.{register_words, compare_words, value_words, 
 ghost use Rattle.slot.specs.Fits.{FitsCr};
 
 use crate::value::{address_numbers, bit_of, maybe_of, numbers_of, value_of};
-use places::MaybeAddress;
 use vm::register::set_direct;
 use vm::{Cr, Gpr, GprValue, Held};
 
@@ -28,8 +27,8 @@ fn store4(words: &mut [u32], at: usize, w: u32, x: u32, y: u32, z: u32)
 fn is_blank(g: Gpr) -> bool
     ensures { result ≡ true → g ≡ blank }
 {
-    matches!(g.hi_addr, MaybeAddress::Nowhere)
-        && matches!(g.lo_addr, MaybeAddress::Nowhere)
+    matches!(g.hi_addr, None)
+        && matches!(g.lo_addr, None)
         && matches!(g.value, GprValue::Unknown)
 }
 

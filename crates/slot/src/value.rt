@@ -5,8 +5,8 @@ ghost use Rattle.slot.specs.Values.{target_numbers, numbers_of, value_of, addres
 ghost use Rattle.slot.specs.Fits.{Numbered};
 
 use crate::{AddressNumbers, Numbers};
-use places::{MaybeAddress, RelocationTarget, SectionAddress};
-use vm::{GprValue, TableSize};
+use places::{RelocationTarget, SectionAddress};
+use vm::GprValue;
 
 fn target_numbers(t: RelocationTarget, tag: u32, n: u32) -> Numbers
     requires { tag < 15 }
@@ -62,8 +62,8 @@ pub fn numbers_of(v: GprValue) -> Numbers
             address,
             max_offset,
         } => match max_offset {
-            TableSize::Guessed => target_numbers(address, 6, 0),
-            TableSize::Bytes(n) => target_numbers(address, 8, n),
+            None => target_numbers(address, 6, 0),
+            Some(n) => target_numbers(address, 8, n),
         },
     }
 }
@@ -89,35 +89,35 @@ pub fn value_of(tag: u32, a: u32, b: u32, c: u32) -> GprValue
         },
         6 => GprValue::LoadIndexed {
             address: RelocationTarget::External,
-            max_offset: TableSize::Guessed,
+            max_offset: None,
         },
         7 => GprValue::LoadIndexed {
             address: RelocationTarget::Address(p),
-            max_offset: TableSize::Guessed,
+            max_offset: None,
         },
         8 => GprValue::LoadIndexed {
             address: RelocationTarget::External,
-            max_offset: TableSize::Bytes(c),
+            max_offset: Some(c),
         },
         9 => GprValue::LoadIndexed {
             address: RelocationTarget::Address(p),
-            max_offset: TableSize::Bytes(c),
+            max_offset: Some(c),
         },
         _ => GprValue::Unknown,
     }
 }
 
 // The flag and the numbers of a place that may be missing.
-pub fn address_numbers(m: MaybeAddress) -> AddressNumbers
+pub fn address_numbers(m: Option<SectionAddress>) -> AddressNumbers
     ensures { (result ≡ address_numbers m) × (result.known ≤ 1) }
 {
     match m {
-        MaybeAddress::Nowhere => AddressNumbers {
+        None => AddressNumbers {
             known: 0,
             section: 0,
             address: 0,
         },
-        MaybeAddress::At(p) => AddressNumbers {
+        Some(p) => AddressNumbers {
             known: 1,
             section: p.section,
             address: p.address,
@@ -126,13 +126,13 @@ pub fn address_numbers(m: MaybeAddress) -> AddressNumbers
 }
 
 // The place of a flag and numbers.
-pub fn maybe_of(known: u32, section: u32, address: u32) -> MaybeAddress
+pub fn maybe_of(known: u32, section: u32, address: u32) -> Option<SectionAddress>
     ensures { result ≡ maybe_of known section address }
 {
     if known == 1 {
-        MaybeAddress::At(SectionAddress { section, address })
+        Some(SectionAddress { section, address })
     } else {
-        MaybeAddress::Nowhere
+        None
     }
 }
 

@@ -10,7 +10,7 @@ ghost use Rattle.stack.specs.Stack.{Stack};
 
 use cells::STATE_WORDS;
 use clones::Made;
-use places::{MaybeAddress, SectionAddress};
+use places::SectionAddress;
 use std::io;
 use std::io::Read;
 use vm::{Cr, Gpr, GprValue, VM};
@@ -32,11 +32,11 @@ fn start(x: u32) -> VM {
             max: x,
             step: 4,
         },
-        hi_addr: MaybeAddress::At(SectionAddress {
+        hi_addr: Some(SectionAddress {
             section: 1,
             address: x,
         }),
-        lo_addr: MaybeAddress::Nowhere,
+        lo_addr: None,
     };
     s.gpr[13] = vm::register::set_direct(GprValue::ComparisonResult(3));
     s.cr[3] = Cr {

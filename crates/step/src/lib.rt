@@ -11,9 +11,9 @@ pub mod records;
 pub mod ways;
 
 use decoder::Writes;
-use image::Judged;
-use lookups::CodePlace;
-use places::{MaybeTarget, RelocationTarget, SectionAddress};
+use image::BrokenImage;
+use lookups::PlaceError;
+use places::{RelocationTarget, SectionAddress};
 use vm::{BranchTarget, Cr, Gpr, GprValue, VM};
 
 // Why `step` refuses: document 01's 1, 2 and 3.
@@ -82,8 +82,8 @@ pub enum Effect {
     FromLr,
     FromCtr,
     // rA's record after it, and what it reached; a Load also makes rD Unknown.
-    Load { base: Gpr, seen: MaybeTarget },
-    Store { base: Gpr, seen: MaybeTarget },
+    Load { base: Gpr, seen: Option<RelocationTarget> },
+    Store { base: Gpr, seen: Option<RelocationTarget> },
     Clear(Writes),
     Leaves(Way),
 }
@@ -132,11 +132,11 @@ pub fn step(im: &[u32], data: &[u8], at: SectionAddress, word: u32, state: VM) -
     ensures { result ≡ stepped_of im.now (length «data».now) at word state }
 {
     match image::check_image(im, data) {
-        Judged::Broken => refused(Refusal::BrokenImage, state),
-        Judged::Sound => match lookups::code_place(im, at) {
-            CodePlace::NotCode => refused(Refusal::NotCode, state),
-            CodePlace::Misaligned => refused(Refusal::Misaligned, state),
-            CodePlace::Fine => done::step_word(im, at, word, state),
+        Err(_) => refused(Refusal::BrokenImage, state),
+        Ok(()) => match lookups::code_place(im, at) {
+            Err(PlaceError::NotCode) => refused(Refusal::NotCode, state),
+            Err(PlaceError::Misaligned) => refused(Refusal::Misaligned, state),
+            Ok(()) => done::step_word(im, at, word, state),
         },
     }
 }

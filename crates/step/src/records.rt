@@ -8,19 +8,19 @@ ghost use Rattle.step.specs.Arms.{addis_gpr, addi_gpr, ori_gpr, or_gpr, compare_
 
 use crate::Effect;
 use decoder::Op;
-use places::{MaybeTarget, SectionAddress};
+use places::{RelocationTarget, SectionAddress};
 use vm::register::{set_direct, set_hi, set_lo, with_value};
 use vm::{Cr, Gpr, GprValue, rule};
 use words::field;
 
 // addis rD, rA, SIMM
 #[tactic(auto, unfolding(crate::specs::Arms::addis_gpr))]
-pub fn addis(known: MaybeTarget, at: SectionAddress, w: u32, left: GprValue) -> Gpr
+pub fn addis(known: Option<RelocationTarget>, at: SectionAddress, w: u32, left: GprValue) -> Gpr
     ensures { result ≡ addis_gpr known at w left }
 {
     match known {
-        MaybeTarget::Known(t) => set_hi(GprValue::Address(t), at),
-        MaybeTarget::Missing => {
+        Some(t) => set_hi(GprValue::Address(t), at),
+        None => {
             let simm = field::simm(w);
             if field::ra(w) == 0 {
                 // lis rD, SIMM
@@ -34,12 +34,12 @@ pub fn addis(known: MaybeTarget, at: SectionAddress, w: u32, left: GprValue) -> 
 
 // addi rD, rA, SIMM, and addic and addic., of which rA 0 is register 0
 #[tactic(auto, unfolding(crate::specs::Arms::addi_gpr))]
-pub fn addi(known: MaybeTarget, load_zero: bool, at: SectionAddress, w: u32, ga: Gpr) -> Gpr
+pub fn addi(known: Option<RelocationTarget>, load_zero: bool, at: SectionAddress, w: u32, ga: Gpr) -> Gpr
     ensures { result ≡ addi_gpr known load_zero at w ga }
 {
     match known {
-        MaybeTarget::Known(t) => set_lo(GprValue::Address(t), at, ga),
-        MaybeTarget::Missing => {
+        Some(t) => set_lo(GprValue::Address(t), at, ga),
+        None => {
             let simm = field::simm(w);
             if load_zero {
                 // li rD, SIMM
@@ -53,12 +53,12 @@ pub fn addi(known: MaybeTarget, load_zero: bool, at: SectionAddress, w: u32, ga:
 
 // ori rA, rS, UIMM
 #[tactic(auto, unfolding(crate::specs::Arms::ori_gpr))]
-pub fn ori(known: MaybeTarget, at: SectionAddress, w: u32, gs: Gpr) -> Gpr
+pub fn ori(known: Option<RelocationTarget>, at: SectionAddress, w: u32, gs: Gpr) -> Gpr
     ensures { result ≡ ori_gpr known at w gs }
 {
     match known {
-        MaybeTarget::Known(t) => set_lo(GprValue::Address(t), at, gs),
-        MaybeTarget::Missing => set_lo(rule::ori(gs.value, field::uimm(w)), at, gs),
+        Some(t) => set_lo(GprValue::Address(t), at, gs),
+        None => set_lo(rule::ori(gs.value, field::uimm(w)), at, gs),
     }
 }
 
@@ -118,19 +118,19 @@ pub fn mfspr(w: u32) -> Effect
 }
 
 // Gpr::address
-pub fn address(im: &[u32], at: SectionAddress, value: GprValue) -> MaybeTarget
+pub fn address(im: &[u32], at: SectionAddress, value: GprValue) -> Option<RelocationTarget>
     requires { tables_sound im.now ≡ true }
     ensures { result ≡ address_of (section_address_for im.now at) value }
 {
     match value {
         GprValue::Constant(n) => lookups::section_address_for(im, at, n),
-        GprValue::Address(t) => MaybeTarget::Known(t),
-        _ => MaybeTarget::Missing,
+        GprValue::Address(t) => Some(t),
+        _ => None,
     }
 }
 
 // What a displacement load or store reaches: an Address base does not get the displacement.
-fn reach(im: &[u32], at: SectionAddress, base: GprValue, simm: u32) -> MaybeTarget
+fn reach(im: &[u32], at: SectionAddress, base: GprValue, simm: u32) -> Option<RelocationTarget>
     requires { tables_sound im.now ≡ true }
     ensures { result ≡ seen_of (section_address_for im.now at) base simm }
 {
@@ -138,8 +138,8 @@ fn reach(im: &[u32], at: SectionAddress, base: GprValue, simm: u32) -> MaybeTarg
         GprValue::Constant(n) => {
             lookups::section_address_for(im, at, words::sum::wrapping_add(n, simm))
         }
-        GprValue::Address(t) => MaybeTarget::Known(t),
-        _ => MaybeTarget::Missing,
+        GprValue::Address(t) => Some(t),
+        _ => None,
     }
 }
 

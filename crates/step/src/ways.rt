@@ -7,16 +7,16 @@ ghost use Rattle.vm.specs.Rules.{reached_of};
 ghost use Rattle.step.specs.Ways.{ctr_target, dest_target, conditional_of, branch_of, leave_of, branches_of, left_of};
 
 use crate::{Branch, Leave, StepResult, Stepped, Way};
-use places::{MaybeTarget, RelocationTarget, SectionAddress};
+use places::{RelocationTarget, SectionAddress};
 use vm::{BranchTarget, Cr, GprValue, VM, rule};
 use words::field;
 
-fn reached(known: MaybeTarget) -> BranchTarget
+fn reached(known: Option<RelocationTarget>) -> BranchTarget
     ensures { result ≡ reached_of known }
 {
     match known {
-        MaybeTarget::Known(t) => BranchTarget::Address(t),
-        MaybeTarget::Missing => BranchTarget::Unknown,
+        Some(t) => BranchTarget::Address(t),
+        None => BranchTarget::Unknown,
     }
 }
 

@@ -2,7 +2,7 @@
 // class of words, how many there are and after how many all thirty-two registers are what qemu-ppc had.
 #![tactic(auto)]
 
-use places::{MaybeAddress, SectionAddress};
+use places::SectionAddress;
 use std::io;
 use step::{StepResult, Stepped};
 use streams::{read_full, room};
@@ -48,8 +48,8 @@ const NAMES: [&str; 25] = [
 fn constant(n: u32) -> Gpr {
     Gpr {
         value: GprValue::Constant(n),
-        hi_addr: MaybeAddress::Nowhere,
-        lo_addr: MaybeAddress::Nowhere,
+        hi_addr: None,
+        lo_addr: None,
     }
 }
 

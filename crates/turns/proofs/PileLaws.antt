@@ -7,7 +7,6 @@ use mathlib.Core.List.{List, [], ◌∷◌, ◌++◌, append_assoc}
 use native.Mathlib.Omega.{arith}
 use lib.ListN.{length, get_or}
 use Rattle.places.specs.declared.SectionAddress.{SectionAddress}
-use Rattle.places.specs.declared.MaybeAddress.{MaybeAddress}
 use Rattle.lookups.specs.Code.{code_place}
 use Rattle.vm.specs.declared.VM.{VM}
 use Rattle.std.specs.Prelude.{Option, is_some, unwrap_or}
@@ -138,7 +137,7 @@ module _ {words : List ℕ} {n : ℕ} {buffer : List ℕ} where
         (λ l. table_asked g p a s (pile_in words n buffer false l) refl) (let e : r + 0 ≡ r = omega arith in e) (let e : m + 0 ≡ m = omega arith in e)
         (piles_then (asked_for g p a) (push_each g s (g.listed (g.look a))) h i)
 
-module _ (ws bs : List ℕ) (from : SectionAddress) (upto : MaybeAddress) {words : List ℕ} {n : ℕ} {buffer : List ℕ} (slots : ℕ)
+module _ (ws bs : List ℕ) (from : SectionAddress) (upto : Option SectionAddress) {words : List ℕ} {n : ℕ} {buffer : List ℕ} (slots : ℕ)
     (same-room : room (length words) ≡ slots) (st : Stack words n) where
   -- a place that is no word of code
   pub piles_out : (q : SectionAddress) (s : VM) → is_fine (code_place ws q) ≡ false

@@ -9,17 +9,15 @@ use native.Mathlib.Omega.{arith}
 use lib.ListN.{length, replicate, length-append, length-map, length-take}
 use lib.Dec.{eqb, leb}
 use borrow.Author.Tests.{eqb-true, leb-true}
-use Rattle.std.specs.Prelude.{Option, Some, None, Ok}
+use Rattle.std.specs.Prelude.{Option, Some, None, Ok, Err}
 use Rattle.words.specs.Choice.{pick}
 use Rattle.words.specs.Sums.{sum}
 use Rattle.places.specs.declared.SectionAddress.{SectionAddress}
 use Rattle.places.specs.declared.RelocationTarget.{RelocationTarget}
 use Rattle.places.specs.declared.RelocationTarget.TheVariants as target
-use Rattle.places.specs.declared.MaybeAddress.{MaybeAddress}
 use Rattle.image.specs.Rules.{sound}
 use Rattle.image.proofs.SoundTables.{tables_of_sound}
 use Rattle.lookups.specs.Code.{in_code, code_place, word_number}
-use Rattle.lookups.specs.declared.CodePlace.TheVariants as place
 use Rattle.lookups.proofs.SoundSections.{InCode, in_code_lem}
 use Rattle.lookups.proofs.WordNumbers.{word_number_below, next_word_number}
 use Rattle.vm.specs.declared.VM.{VM}
@@ -37,12 +35,13 @@ use Rattle.jump_tables.specs.Tables.{count_of, Outcome, refused, filled, fitted,
 use Rattle.turns.specs.Grounds.{Way, to, Move, jump, leave, on_move}
 use Rattle.turns.specs.Moves.{table_room, most_pushed, Asked, is_fine, word_of, asked_of, way_to, ways_of, jump_to, jump_by, move_by, move_at, look_to, look_at, listed_in, ground_of}
 use Rattle.turns.proofs.Lawful.{widths, Lawful}
+use Rattle.lookups.specs.declared.PlaceError.TheVariants as place
 
 -- an aligned code address is in code, and aligned
 pub fine_place : (ws : List ℕ) (p : SectionAddress) → is_fine (code_place ws p) ≡ true → (in_code ws p ≡ true) × (p.address % 4 ≡ 0)
 fine_place ws p = by (in_code ws p) (eqb (p.address % 4) 0) refl
   where
-    by : (c a : Bool) → eqb (p.address % 4) 0 ≡ a → is_fine (pick c (pick a place.Fine place.Misaligned) place.NotCode) ≡ true → (c ≡ true) × (p.address % 4 ≡ 0)
+    by : (c a : Bool) → eqb (p.address % 4) 0 ≡ a → is_fine (pick c (pick a (Ok tt) (Err place.Misaligned)) (Err place.NotCode)) ≡ true → (c ≡ true) × (p.address % 4 ≡ 0)
     by true true e h = (refl, eqb-true _ _ e)
     by true false e h = absurd (true≢false (sym h))
     by false a e h = absurd (true≢false (sym h))
@@ -80,11 +79,11 @@ sized_few ws bs p n room =
     few_either (eqb (clamped_size ws p n % 4) 0) room (read_off (words_passed ws bs Sized p (clamped_size ws p n / 4)) room) (refused error.Ragged room)
     (read_few _ room) (omega arith)
 
-guessed_few : (ws bs : List ℕ) (p from : SectionAddress) (upto : MaybeAddress) (room : ℕ) → count_of (guessed_table ws bs p from upto room).table ≤ room
+guessed_few : (ws bs : List ℕ) (p from : SectionAddress) (upto : Option SectionAddress) (room : ℕ) → count_of (guessed_table ws bs p from upto room).table ≤ room
 unfolding guessed_table
 guessed_few ws bs p from upto room = read_few _ room
 
-pub table_few : (ws bs : List ℕ) (p : SectionAddress) (n : ℕ) (from : SectionAddress) (upto : MaybeAddress) (room : ℕ)
+pub table_few : (ws bs : List ℕ) (p : SectionAddress) (n : ℕ) (from : SectionAddress) (upto : Option SectionAddress) (room : ℕ)
     → count_of (table_in ws bs p n from upto room).table ≤ room
 unfolding table_in
 table_few ws bs p n from upto room =
@@ -95,7 +94,7 @@ table_few ws bs p n from upto room =
     (guessed_few ws bs p from upto room) (sized_few ws bs p (size_of ws p n) room))
     (omega arith)
 
-module _ (ws bs : List ℕ) (from : SectionAddress) (upto : MaybeAddress) (slots : ℕ) where
+module _ (ws bs : List ℕ) (from : SectionAddress) (upto : Option SectionAddress) (slots : ℕ) where
   look_few : (t : RelocationTarget) (n : ℕ) → count_of (look_to ws bs from upto t n).table ≤ table_room
   look_few target.External n = omega arith
   look_few (target.Address p) n = table_few ws bs p n from upto table_room

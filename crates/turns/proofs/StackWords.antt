@@ -8,7 +8,6 @@ use native.Mathlib.Decide.{dec_lt}
 use native.Mathlib.Omega.{arith}
 use lib.ListN.{length}
 use Rattle.places.specs.declared.SectionAddress.{SectionAddress}
-use Rattle.places.specs.declared.MaybeAddress.{MaybeAddress}
 use Rattle.lookups.specs.Code.{code_place}
 use Rattle.vm.specs.declared.VM.{VM}
 use Rattle.slot.proofs.PutLaws.{listed_length}
@@ -28,7 +27,7 @@ use Rattle.turns.proofs.TurnLaws.{push_taken, push_refused}
 pub entries_length : (words : List ℕ) (n : ℕ) → length (entries words n) ≡ n
 entries_length words n = listed_length (held_at words) n
 
-module _ (ws bs : List ℕ) (from : SectionAddress) (upto : MaybeAddress) (q : SectionAddress) (s : VM)
+module _ (ws bs : List ℕ) (from : SectionAddress) (upto : Option SectionAddress) (q : SectionAddress) (s : VM)
     (words : List ℕ) (n : ℕ) (buffer : List ℕ) (l : List (Event SectionAddress VM Asked Outcome)) (st : Stack words n)
     (r : Option ℕ) (words' : List ℕ) (d : Pushes words n q s true r words') where
   -- the pile after a push: the held states are sorted, and the words are those that pushing writes

@@ -1,15 +1,11 @@
 -- The walk's answer: document 01's refusals in their order, else the walk from its starts, and what it leaves.
 -- Assumes nothing.
-use Rattle.std.specs.Prelude.{ℕ, ⊤, Result, Ok, Err, List, [], ◌∷◌, length}
+use Rattle.std.specs.Prelude.{ℕ, ⊤, Result, Ok, Err, List, [], ◌∷◌, length, Option}
 use Rattle.words.specs.Choice.{pick}
 use Rattle.places.specs.declared.SectionAddress.{SectionAddress}
-use Rattle.places.specs.declared.MaybeAddress.{MaybeAddress}
 use Rattle.image.specs.Rules.{code_words, sound}
 use Rattle.lookups.specs.Code.{code_place}
-use Rattle.lookups.specs.declared.CodePlace.{CodePlace}
-use Rattle.lookups.specs.declared.CodePlace.TheVariants as place
 use Rattle.vm.specs.declared.VM.{VM}
-use Rattle.vm.specs.declared.MaybeBase.{MaybeBase}
 use Rattle.vm.specs.States.{bases_of}
 use Rattle.stack.specs.Stack.{Entry, room}
 use Rattle.visited.specs.Bits.{has_room}
@@ -21,6 +17,8 @@ use Rattle.turns.specs.Grounds.{Ground, Conf, Event}
 use Rattle.turns.specs.Turns.{start_of, walk_of}
 use Rattle.turns.specs.Histories.{steps, blocks, tables_read, tables_not_read, in_order}
 use Rattle.turns.specs.Moves.{Asked, Lent, is_read, ground_of}
+use Rattle.lookups.specs.declared.PlaceError.TheVariants as place
+use Rattle.lookups.specs.declared.PlaceError.{PlaceError}
 
 -- what a walk is given
 pub record Given : Type 0 where
@@ -29,13 +27,13 @@ pub record Given : Type 0 where
   pub bytes : List ℕ
   -- the starts in turn, and the numbers of r2 and r13
   pub starts : List SectionAddress
-  pub two : MaybeBase
-  pub thirteen : MaybeBase
+  pub two : Option ℕ
+  pub thirteen : Option ℕ
   -- the function bounds of guessed tables
   pub from : SectionAddress
-  pub upto : MaybeAddress
+  pub upto : Option SectionAddress
 
-abbrev pub given : List ℕ → List ℕ → List SectionAddress → MaybeBase → MaybeBase → SectionAddress → MaybeAddress → Given
+abbrev pub given : List ℕ → List ℕ → List SectionAddress → Option ℕ → Option ℕ → SectionAddress → Option SectionAddress → Given
 given ws bs starts two thirteen from upto =
     record { tables = ws; bytes = bs; starts = starts; two = two; thirteen = thirteen; from = from; upto = upto }
 
@@ -57,10 +55,10 @@ answer_of (Ok u) = 0
 answer_of (Err e) = error_number e
 
 -- "judge all starts in turn (2, then 3)": the first bad one decides
-abbrev pub judged_by : CodePlace → Result ⊤ WalkError → Result ⊤ WalkError
-judged_by place.NotCode z = Err error.NotCode
-judged_by place.Misaligned z = Err error.Misaligned
-judged_by place.Fine z = z
+abbrev pub judged_by : Result ⊤ PlaceError → Result ⊤ WalkError → Result ⊤ WalkError
+judged_by (Err place.NotCode) z = Err error.NotCode
+judged_by (Err place.Misaligned) z = Err error.Misaligned
+judged_by (Ok tt) z = z
 
 unfoldable pub starts_judged : List ℕ → List SectionAddress → Result ⊤ WalkError
 starts_judged ws [] = Ok tt

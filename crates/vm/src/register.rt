@@ -4,15 +4,15 @@ ghost use Rattle.std.specs.Prelude.{◌≡◌};
 ghost use Rattle.vm.specs.Registers.{direct, high, low, marked};
 
 use crate::{Gpr, GprValue};
-use places::{MaybeAddress, SectionAddress};
+use places::SectionAddress;
 
 pub fn set_direct(value: GprValue) -> Gpr
     ensures { result ≡ direct value }
 {
     Gpr {
         value,
-        hi_addr: MaybeAddress::Nowhere,
-        lo_addr: MaybeAddress::Nowhere,
+        hi_addr: None,
+        lo_addr: None,
     }
 }
 
@@ -21,8 +21,8 @@ pub fn set_hi(value: GprValue, addr: SectionAddress) -> Gpr
 {
     Gpr {
         value,
-        hi_addr: MaybeAddress::At(addr),
-        lo_addr: MaybeAddress::Nowhere,
+        hi_addr: Some(addr),
+        lo_addr: None,
     }
 }
 
@@ -33,15 +33,15 @@ pub fn set_lo(value: GprValue, addr: SectionAddress, hi_gpr: Gpr) -> Gpr
     let hi = hi_gpr.hi_addr;
     let lo = hi_gpr.lo_addr;
     match lo {
-        MaybeAddress::At(_) => Gpr {
+        Some(_) => Gpr {
             value,
             hi_addr: hi,
             lo_addr: lo,
         },
-        MaybeAddress::Nowhere => Gpr {
+        None => Gpr {
             value,
             hi_addr: hi,
-            lo_addr: MaybeAddress::At(addr),
+            lo_addr: Some(addr),
         },
     }
 }

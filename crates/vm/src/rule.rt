@@ -4,8 +4,8 @@ ghost use Rattle.std.specs.Prelude.{◌≡◌, ◌<◌};
 ghost use Rattle.vm.specs.Rules.{offset_of, add_of, addis_of, addi_of, subf_of, subfic_of, ori_of, or_of, rotate_of, rlwnm_of, non_zero, max_offset_of, lwzx_of, size_of, base_of};
 
 use crate::register::{set_direct, set_lo};
-use crate::{Gpr, GprValue, TableSize};
-use places::{MaybeTarget, RelocationTarget, SectionAddress};
+use crate::{Gpr, GprValue};
+use places::{RelocationTarget, SectionAddress};
 use words::mask::rotate_left;
 use words::sum::{subtract_from, wrapping_add};
 
@@ -110,63 +110,63 @@ pub fn rlwnm(value: GprValue, amount: GprValue, mask: u32) -> GprValue
 }
 
 // NonZeroU32::new
-pub fn non_zero(n: u32) -> TableSize
+pub fn non_zero(n: u32) -> Option<u32>
     ensures { result ≡ non_zero n }
 {
     if n == 0 {
-        TableSize::Guessed
+        None
     } else {
-        TableSize::Bytes(n)
+        Some(n)
     }
 }
 
 // What an index tells of the largest offset: a Range's max, if it is a multiple of 4 and 4 more still counts.
-pub fn max_offset(index: GprValue) -> TableSize
+pub fn max_offset(index: GprValue) -> Option<u32>
     ensures { result ≡ max_offset_of index }
 {
     match index {
         GprValue::Range { max, .. } if max < 4_294_967_291 && max % 4 == 0 => non_zero(max),
-        _ => TableSize::Guessed,
+        _ => None,
     }
 }
 
-pub fn lwzx(table: MaybeTarget, index: GprValue) -> GprValue
+pub fn lwzx(table: Option<RelocationTarget>, index: GprValue) -> GprValue
     ensures { result ≡ lwzx_of table index }
 {
     match table {
-        MaybeTarget::Known(t) => {
+        Some(t) => {
             GprValue::LoadIndexed {
                 address: t,
                 max_offset: max_offset(index),
             }
         }
-        MaybeTarget::Missing => GprValue::Unknown,
+        None => GprValue::Unknown,
     }
 }
 
 // checked_add(4): the last entry's own bytes.
-pub fn size(max_offset: TableSize) -> TableSize
+pub fn size(max_offset: Option<u32>) -> Option<u32>
     ensures { result ≡ size_of max_offset }
 {
     match max_offset {
-        TableSize::Bytes(n) => match n.checked_add(4) {
-            Some(m) => TableSize::Bytes(m),
-            None => TableSize::Guessed,
+        Some(n) => match n.checked_add(4) {
+            Some(m) => Some(m),
+            None => None,
         },
-        TableSize::Guessed => TableSize::Guessed,
+        None => None,
     }
 }
 
 // The base register after a displacement load or store that reached `seen`. A Constant base in no section stays.
-pub fn base(g: Gpr, update: bool, seen: MaybeTarget, addr: SectionAddress) -> Gpr
+pub fn base(g: Gpr, update: bool, seen: Option<RelocationTarget>, addr: SectionAddress) -> Gpr
     ensures { result ≡ base_of g update seen addr }
 {
     if !update {
         return g;
     }
     match seen {
-        MaybeTarget::Known(t) => set_lo(GprValue::Address(t), addr, g),
-        MaybeTarget::Missing => match g.value {
+        Some(t) => set_lo(GprValue::Address(t), addr, g),
+        None => match g.value {
             GprValue::Constant(_) => g,
             _ => set_direct(GprValue::Unknown),
         },

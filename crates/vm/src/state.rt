@@ -6,7 +6,7 @@ ghost use Rattle.vm.specs.Values.{on_mark};
 ghost use Rattle.vm.specs.States.{fresh, bases_of, with_base, keep_value, link_of, saved_from, return_of, with_result};
 
 use crate::register::set_direct;
-use crate::{Cr, Gpr, GprValue, Held, MaybeBase, VM};
+use crate::{Cr, Gpr, GprValue, Held, VM};
 
 // All Unknown.
 pub fn new() -> VM
@@ -31,22 +31,22 @@ pub fn new() -> VM
     }
 }
 
-fn with_base(t: VM, i: usize, base: MaybeBase) -> VM
+fn with_base(t: VM, i: usize, base: Option<u32>) -> VM
     requires { i < 32 }
     ensures { result ≡ with_base t i base }
 {
     let mut u = t;
     match base {
-        MaybeBase::Value(n) => {
+        Some(n) => {
             u.gpr[i] = set_direct(GprValue::Constant(n));
             u
         }
-        MaybeBase::Unset => u,
+        None => u,
     }
 }
 
 // All Unknown but r2 and r13, where a number is given.
-pub fn new_with_base(sda2_base: MaybeBase, sda_base: MaybeBase) -> VM
+pub fn new_with_base(sda2_base: Option<u32>, sda_base: Option<u32>) -> VM
     ensures { result ≡ bases_of sda2_base sda_base }
 {
     with_base(with_base(new(), 2, sda2_base), 13, sda_base)

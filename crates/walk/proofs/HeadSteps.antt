@@ -6,13 +6,11 @@ use mathlib.Core.Bool.{Bool, true, false}
 use mathlib.Core.List.{List}
 use native.Mathlib.Omega.{arith}
 use lib.ListN.{length}
-use Rattle.std.specs.Prelude.{Some, None, Result, Ok, Err}
+use Rattle.std.specs.Prelude.{Some, None, Result, Ok, Err, Option}
 use Rattle.places.specs.declared.SectionAddress.{SectionAddress}
-use Rattle.places.specs.declared.MaybeAddress.{MaybeAddress}
 use Rattle.image.specs.Numbers.{max_code_words}
 use Rattle.image.specs.Rules.{code_words, sound}
 use Rattle.lookups.specs.Code.{code_place, word_number}
-use Rattle.vm.specs.declared.MaybeBase.{MaybeBase}
 use Rattle.vm.specs.States.{bases_of}
 use Rattle.step.specs.declared.Leave.{Leave}
 use Rattle.stack.specs.Stack.{Stack, entries, held_at, room}
@@ -121,15 +119,15 @@ module _ (i : Given) (vis : List ℕ) (lent : Lent) (fine : judged i vis ≡ Ok 
       turn_follows (goes l o taken) = turn_takes l o taken
 
 -- what the loop keeps: from where it began, whatever the walk's starts were
-abbrev pub Kept : List ℕ → List ℕ → SectionAddress → MaybeAddress → List ℕ → ℕ → List ℕ → Bool → List ℕ
+abbrev pub Kept : List ℕ → List ℕ → SectionAddress → Option SectionAddress → List ℕ → ℕ → List ℕ → Bool → List ℕ
     → List ℕ → ℕ → List ℕ → Bool → List ℕ → ℕ → ℕ → ℕ → ℕ → Type 0
 Kept ws bs from upto words₀ n₀ buffer₀ full₀ v₀ words n buffer full v a b c d =
-    (starts : List SectionAddress) (two thirteen : MaybeBase) (vis : List ℕ) (lent : Lent) → judged (given ws bs starts two thirteen from upto) vis ≡ Ok tt
+    (starts : List SectionAddress) (two thirteen : Option ℕ) (vis : List ℕ) (lent : Lent) → judged (given ws bs starts two thirteen from upto) vis ≡ Ok tt
     → Head (given ws bs starts two thirteen from upto) vis lent words₀ n₀ buffer₀ full₀ v₀ 0 0 0 0
     → Head (given ws bs starts two thirteen from upto) vis lent words n buffer full v a b c d
 
-module _ {ws bs starts : List ℕ} {two thirteen : MaybeBase} {vis words : List ℕ} {r : Result Begun WalkError} {vis' words' : List ℕ}
-    (begins : Begins ws bs starts two thirteen vis words r vis' words') (from : SectionAddress) (upto : MaybeAddress) (buffer : List ℕ) where
+module _ {ws bs starts : List ℕ} {two thirteen : (Option ℕ)} {vis words : List ℕ} {r : Result Begun WalkError} {vis' words' : List ℕ}
+    (begins : Begins ws bs starts two thirteen vis words r vis' words') (from : SectionAddress) (upto : Option SectionAddress) (buffer : List ℕ) where
   abbrev i : Given
   i = given ws bs (places_of starts) two thirteen from upto
 
@@ -184,7 +182,7 @@ module _ {ws bs starts : List ℕ} {two thirteen : MaybeBase} {vis words : List 
         walk_below = head_below i vis lent fine top_head some
 
         module _ (new : visited_at v (word_number ws (held_at words'' (k - 1)).place) ≡ false) {e : Ending} {v' : List ℕ}
-            (block : (from : SectionAddress) (upto : MaybeAddress) (slots : ℕ)
+            (block : (from : SectionAddress) (upto : Option SectionAddress) (slots : ℕ)
             → Block (ground_of ws bs from upto slots) (held_at words'' (k - 1)).place (held_at words'' (k - 1)).state v e v') where
           pub walk_follows : {words''' buffer''' : List ℕ} {t : Taken} → Followed ws bs from upto words'' (k - 1) buffer'' e words''' buffer''' t
               → Fit (a + e.stepped) (b + 1 + e.begun) (c + t.read) (d + t.not_read) × (head_left i lent t.held v' < head_left i lent k v)

@@ -7,16 +7,12 @@ use mathlib.Core.List.{List, [], ◌++◌, append-nil}
 use native.Mathlib.Numerals.{add-one}
 use lib.ListN.{length, get_or, take, drop, drop_of_length-le}
 use lib.Seq.{drop-cons, take-length}
-use Rattle.std.specs.Prelude.{⊤, Result, Ok, Err}
+use Rattle.std.specs.Prelude.{⊤, Result, Ok, Err, Option}
 use Rattle.places.specs.declared.SectionAddress.{SectionAddress}
-use Rattle.places.specs.declared.MaybeAddress.{MaybeAddress}
 use Rattle.image.specs.Rules.{code_words, sound}
 use Rattle.lookups.specs.Code.{code_place}
-use Rattle.lookups.specs.declared.CodePlace.{CodePlace}
-use Rattle.lookups.specs.declared.CodePlace.TheVariants as place
 use native.Mathlib.Omega.{arith}
 use Rattle.vm.specs.declared.VM.{VM}
-use Rattle.vm.specs.declared.MaybeBase.{MaybeBase}
 use Rattle.vm.specs.States.{bases_of}
 use Rattle.stack.specs.Stack.{Entry, room}
 use Rattle.stack.proofs.Stacks.{no_entries}
@@ -30,12 +26,14 @@ use Rattle.turns.specs.Moves.{Asked, Lent, place_of, ground_of}
 use Rattle.turns.specs.Walks.{Given, given, start_in, starts_judged, judged_by, judged}
 use Rattle.turns.specs.Heads.{Piles, Head}
 use Rattle.walk.specs.Starts.{places_of, Begins}
+use Rattle.lookups.specs.declared.PlaceError.TheVariants as place
+use Rattle.lookups.specs.declared.PlaceError.{PlaceError}
 
 -- the starts from number j on
 abbrev pub judged_from : List ℕ → List ℕ → ℕ → Result ⊤ WalkError
 judged_from ws starts j = starts_judged ws (places_of (drop j starts))
 
-pub judges_next : (ws starts : List ℕ) (j : ℕ) → j < length starts → (p : CodePlace) → code_place ws (place_of (get_or starts j 0)) ≡ p
+pub judges_next : (ws starts : List ℕ) (j : ℕ) → j < length starts → (p : Result ⊤ PlaceError) → code_place ws (place_of (get_or starts j 0)) ≡ p
     → judged_from ws starts j ≡ judged_by p (judged_from ws starts (j + 1))
 unfolding starts_judged
 judges_next ws starts j l p e = rw (← e, add-one j, drop-cons starts j 0 l)
@@ -58,21 +56,21 @@ judged_4 i vis e r = rw (e, r)
 error_not_ok : {A : Type 0} (e : WalkError) → ◌≡◌ {A = Result ⊤ WalkError} (Err e) (Ok tt) → A
 error_not_ok e q = let z : ◌≡◌ {A = ℕ} 0 1 = cc in absurd (omega arith)
 
-pub start_refuses : (p : CodePlace) (z : Result ⊤ WalkError) (e : WalkError) → judged_by p (Ok tt) ≡ Err e → judged_by p z ≡ Err e
-start_refuses place.NotCode z e h = h
-start_refuses place.Misaligned z e h = h
-start_refuses place.Fine z e h = error_not_ok e (sym h)
+pub start_refuses : (p : Result ⊤ PlaceError) (z : Result ⊤ WalkError) (e : WalkError) → judged_by p (Ok tt) ≡ Err e → judged_by p z ≡ Err e
+start_refuses (Err place.NotCode) z e h = h
+start_refuses (Err place.Misaligned) z e h = h
+start_refuses (Ok tt) z e h = error_not_ok e (sym h)
 
-pub start_passes : (p : CodePlace) (z : Result ⊤ WalkError) → judged_by p (Ok tt) ≡ Ok tt → judged_by p z ≡ z
-start_passes place.NotCode z h = error_not_ok error.NotCode h
-start_passes place.Misaligned z h = error_not_ok error.Misaligned h
-start_passes place.Fine z h = refl
+pub start_passes : (p : Result ⊤ PlaceError) (z : Result ⊤ WalkError) → judged_by p (Ok tt) ≡ Ok tt → judged_by p z ≡ z
+start_passes (Err place.NotCode) z h = error_not_ok error.NotCode h
+start_passes (Err place.Misaligned) z h = error_not_ok error.Misaligned h
+start_passes (Ok tt) z h = refl
 
 -- the map cleared and the starts pushed: the loop over blocks begins
-module _ (ws bs starts : List ℕ) (two thirteen : MaybeBase) (vis words : List ℕ) where
+module _ (ws bs starts : List ℕ) (two thirteen : Option ℕ) (vis words : List ℕ) where
   pub begins_done : {words' : List ℕ} {n : ℕ} {full : Bool}
-      → ((from : SectionAddress) (upto : MaybeAddress) → judged (given ws bs (places_of starts) two thirteen from upto) vis ≡ Ok tt)
-      → ((bs : List ℕ) (from : SectionAddress) (upto : MaybeAddress) (buffer : List ℕ)
+      → ((from : SectionAddress) (upto : Option SectionAddress) → judged (given ws bs (places_of starts) two thirteen from upto) vis ≡ Ok tt)
+      → ((bs : List ℕ) (from : SectionAddress) (upto : Option SectionAddress) (buffer : List ℕ)
       → Piles (push_each (ground_of ws bs from upto (room (length words))) (bases_of two thirteen) (places_of (take (length starts) starts))) words 0 buffer words' n buffer full 0 0)
       → Begins ws bs starts two thirteen vis words (Ok (record { held = n; full = full })) (cleared vis (code_words ws)) words'
   begins_done {words'} {n} {full} fine piled = record {
@@ -80,7 +78,7 @@ module _ (ws bs starts : List ℕ) (two thirteen : MaybeBase) (vis words : List 
     begun = λ from upto buffer. (fine from upto, first from upto buffer (rw (take-length starts) at (piled bs from upto buffer)));
   }
     where
-      first : (from : SectionAddress) (upto : MaybeAddress) (buffer : List ℕ)
+      first : (from : SectionAddress) (upto : Option SectionAddress) (buffer : List ℕ)
           → Piles (push_each (ground_of ws bs from upto (room (length words))) (bases_of two thirteen) (places_of starts)) words 0 buffer words' n buffer full 0 0
           → Head (given ws bs (places_of starts) two thirteen from upto) vis (record { stack = words; entries = buffer }) words' n buffer full (cleared vis (code_words ws)) 0 0 0 0
       first from upto buffer p = record {

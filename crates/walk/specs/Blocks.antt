@@ -5,8 +5,6 @@ use Rattle.words.specs.Choice.{pick}
 use Rattle.places.specs.declared.SectionAddress.{SectionAddress}
 use Rattle.places.specs.declared.RelocationTarget.{RelocationTarget}
 use Rattle.places.specs.declared.RelocationTarget.TheVariants as target
-use Rattle.places.specs.declared.MaybeAddress.{MaybeAddress}
-use Rattle.places.specs.declared.MaybeAddress.TheVariants.{Nowhere, At}
 use Rattle.vm.specs.declared.VM.{VM}
 use Rattle.vm.specs.declared.BranchTarget.{BranchTarget}
 use Rattle.vm.specs.declared.BranchTarget.TheVariants as branch
@@ -24,24 +22,24 @@ use Rattle.pushes.specs.Takes.{none, TakenWays}
 use Rattle.walk.specs.declared.Ended.{Ended}
 
 -- a target in the section of that index
-abbrev pub target_in : RelocationTarget → ℕ → MaybeAddress
-target_in target.External n = Nowhere
-target_in (target.Address q) n = pick (eqb q.section n) (At q) Nowhere
+abbrev pub target_in : RelocationTarget → ℕ → Option SectionAddress
+target_in target.External n = None
+target_in (target.Address q) n = pick (eqb q.section n) (Some q) None
 
-abbrev pub branch_in : BranchTarget → ℕ → MaybeAddress
-branch_in branch.Unknown n = Nowhere
-branch_in branch.Return n = Nowhere
+abbrev pub branch_in : BranchTarget → ℕ → Option SectionAddress
+branch_in branch.Unknown n = None
+branch_in branch.Return n = None
 branch_in (branch.Address t) n = target_in t n
-branch_in (branch.JumpTable t m) n = Nowhere
+branch_in (branch.JumpTable t m) n = None
 
 -- where a word jumps to inside its section
-abbrev pub jump_in : Leave → ℕ → MaybeAddress
-jump_in leaver.Ended n = Nowhere
-jump_in leaver.Illegal n = Nowhere
+abbrev pub jump_in : Leave → ℕ → Option SectionAddress
+jump_in leaver.Ended n = None
+jump_in leaver.Illegal n = None
 jump_in (leaver.Jump t) n = branch_in t n
-jump_in (leaver.Call t) n = Nowhere
-jump_in (leaver.Fork t k stays goes) n = Nowhere
-jump_in (leaver.Both t) n = Nowhere
+jump_in (leaver.Call t) n = None
+jump_in (leaver.Fork t k stays goes) n = None
+jump_in (leaver.Both t) n = None
 
 -- a ground of an image
 abbrev pub Here : Type 0
@@ -80,7 +78,7 @@ pub record Block (g : Here) (p : SectionAddress) (s : VM) (v : List ℕ) (r : En
   pub ends : Last g r.at r.vm map many r v'
 
 -- what the end of a block asked for: nothing, or its last word's ways, which were taken
-pub data Followed (ws bs : List ℕ) (from : SectionAddress) (upto : MaybeAddress) (words : List ℕ) (n : ℕ) (buffer : List ℕ) (r : Ending)
+pub data Followed (ws bs : List ℕ) (from : SectionAddress) (upto : Option SectionAddress) (words : List ℕ) (n : ℕ) (buffer : List ℕ) (r : Ending)
     (words' buffer' : List ℕ) (t : Taken) : Type 0 where
   stays : r.leave ≡ None → t ≡ none n → words' ≡ words → buffer' ≡ buffer → Followed ws bs from upto words n buffer r words' buffer' t
   goes : (l : Leave) → r.leave ≡ Some l → TakenWays ws bs from upto words n buffer r.at l r.vm words' buffer' t → Followed ws bs from upto words n buffer r words' buffer' t

@@ -17,12 +17,11 @@ ghost use Rattle.walk.specs.Blocks.{ending_of, Followed};
 use blocks::run_block;
 use cells::STATE_WORDS;
 use lookups::word_number;
-use places::{MaybeAddress, SectionAddress};
+use places::SectionAddress;
 use pushes::{Taken, take};
 use starts::begin;
 use step::Leave;
 use turns::{WalkError, Walked};
-use vm::MaybeBase;
 
 // How many entries a table may have in a walk.
 pub const TABLE_ROOM: usize = 1024;
@@ -54,10 +53,10 @@ pub fn walk(
     im: &[u32],
     data: &[u8],
     starts: &[u64],
-    two: MaybeBase,
-    thirteen: MaybeBase,
+    two: Option<u32>,
+    thirteen: Option<u32>,
     from: SectionAddress,
-    upto: MaybeAddress,
+    upto: Option<SectionAddress>,
     map: &mut [u32],
     stack: &mut [u32],
     entries: &mut [u64; TABLE_ROOM],
@@ -127,7 +126,7 @@ fn follow(
     im: &[u32],
     data: &[u8],
     from: SectionAddress,
-    upto: MaybeAddress,
+    upto: Option<SectionAddress>,
     stack: &mut [u32],
     held: usize,
     entries: &mut [u64],

@@ -1,24 +1,21 @@
 // What comes before the first block: judging, and the starts pushed.
 // Requires nothing; the image may be broken.
-ghost use Rattle.std.specs.Prelude.{◌≡◌, true, Ok};
+ghost use Rattle.std.specs.Prelude.{◌≡◌, true, Ok, Option};
 ghost use Rattle.places.specs.declared.SectionAddress.{SectionAddress};
-ghost use Rattle.places.specs.declared.MaybeAddress.{MaybeAddress};
 ghost use Rattle.image.specs.Rules.{tables_sound};
 ghost use Rattle.lookups.specs.Code.{code_place};
-ghost use Rattle.vm.specs.declared.MaybeBase.{MaybeBase};
 ghost use Rattle.turns.specs.Walks.{given, starts_judged, judged_by, judged};
 ghost use Rattle.walk.specs.Starts.{places_of, Begins};
 
 use crate::Begun;
 use cells::STATE_WORDS;
 use clones::Made;
-use image::Judged;
+use image::BrokenImage;
 use image::code::code_words;
-use lookups::{CodePlace, code_place};
+use lookups::{PlaceError, code_place};
 use places::SectionAddress;
 use pushes::tables::{place_of, push_keys};
 use turns::WalkError;
-use vm::MaybeBase;
 use vm::state::new_with_base;
 
 // A start that is no code is NotCode (2), one that is not aligned Misaligned (3).
@@ -27,9 +24,9 @@ fn judge_start(im: &[u32], p: SectionAddress) -> Result<(), WalkError>
     ensures { result ≡ judged_by (code_place im.now p) (Ok tt) }
 {
     match code_place(im, p) {
-        CodePlace::NotCode => Err(WalkError::NotCode),
-        CodePlace::Misaligned => Err(WalkError::Misaligned),
-        CodePlace::Fine => Ok(()),
+        Err(PlaceError::NotCode) => Err(WalkError::NotCode),
+        Err(PlaceError::Misaligned) => Err(WalkError::Misaligned),
+        Ok(()) => Ok(()),
     }
 }
 
@@ -46,11 +43,11 @@ fn judge_starts(im: &[u32], starts: &[u64]) -> Result<(), WalkError>
 
 // BrokenImage (1), MapTooSmall (4), then the starts.
 fn judge(im: &[u32], data: &[u8], starts: &[u64], map: &[u32]) -> Result<(), WalkError>
-    ensures { (two thirteen : MaybeBase) (from : SectionAddress) (upto : MaybeAddress) → result ≡ judged (given im.now «data».now (places_of starts.now) two thirteen from upto) map.now }
+    ensures { (two thirteen : Option ℕ) (from : SectionAddress) (upto : Option SectionAddress) → result ≡ judged (given im.now «data».now (places_of starts.now) two thirteen from upto) map.now }
 {
     match image::check_image(im, data) {
-        Judged::Broken => Err(WalkError::BrokenImage),
-        Judged::Sound => {
+        Err(_) => Err(WalkError::BrokenImage),
+        Ok(()) => {
             if visited::has_room(map, code_words(im)) {
                 return judge_starts(im, starts);
             }
@@ -64,8 +61,8 @@ pub fn begin(
     im: &[u32],
     data: &[u8],
     starts: &[u64],
-    two: MaybeBase,
-    thirteen: MaybeBase,
+    two: Option<u32>,
+    thirteen: Option<u32>,
     map: &mut [u32],
     stack: &mut [u32],
 ) -> Result<Begun, WalkError>

@@ -5,12 +5,11 @@
 mod print;
 mod read;
 
-use places::{MaybeAddress, SectionAddress};
+use places::SectionAddress;
 use read::Words;
 use std::io;
 use streams::{read_full, room};
 use turns::Walked;
-use vm::MaybeBase;
 
 // What a walk is given.
 #[derive(Clone, Copy)]
@@ -18,10 +17,10 @@ struct Given<'a> {
     image: &'a [u32],
     data: &'a [u8],
     starts: &'a [u64],
-    two: MaybeBase,
-    thirteen: MaybeBase,
+    two: Option<u32>,
+    thirteen: Option<u32>,
     from: SectionAddress,
-    upto: MaybeAddress,
+    upto: Option<SectionAddress>,
 }
 
 fn repeat(

@@ -1,7 +1,6 @@
 // The parts of the file, one after the other. A word past its end reads as 0.
 // Twins of exchange's, over bytes: the file's words and its bytes together wouldn't leave room for the stack.
-use places::{MaybeAddress, SectionAddress};
-use vm::MaybeBase;
+use places::SectionAddress;
 
 // What is still to be read.
 #[derive(Clone, Copy)]
@@ -54,23 +53,23 @@ impl<'a> Words<'a> {
         }
     }
 
-    pub(crate) fn maybe_place(&mut self) -> MaybeAddress {
+    pub(crate) fn maybe_place(&mut self) -> Option<SectionAddress> {
         let there = self.word() != 0;
         let place = self.place();
         if there {
-            MaybeAddress::At(place)
+            Some(place)
         } else {
-            MaybeAddress::Nowhere
+            None
         }
     }
 
-    pub(crate) fn base(&mut self) -> MaybeBase {
+    pub(crate) fn base(&mut self) -> Option<u32> {
         let given = self.word() != 0;
         let number = self.word();
         if given {
-            MaybeBase::Value(number)
+            Some(number)
         } else {
-            MaybeBase::Unset
+            None
         }
     }
 }

@@ -1,9 +1,9 @@
 -- The loop keeps `Kept`, of proofs/HeadSteps.
+use Rattle.std.specs.Prelude.{None}
 use mathlib.Core.List.{[]}
 use mathlib.Core.Path.{◌≡◌}
 use lib.ListN.{length}
 use Rattle.slot.specs.Layout.{state_size}
-use Rattle.vm.specs.declared.MaybeBase.TheVariants.{Unset}
 use Rattle.turns.specs.Heads.{head_left}
 use Rattle.turns.specs.Walks.{given}
 use Rattle.walk.proofs.HeadSteps.{Kept}
@@ -15,4 +15,4 @@ invariant-loop-full l =
 
 abbrev pub decreases-loop-full : goal.decreases-loop-full
 decreases-loop-full l =
-    head_left (given l.im l.«data» [] Unset Unset l.from l.upto) (record { stack = []; entries = [] }) l.held l.map
+    head_left (given l.im l.«data» [] None None l.from l.upto) (record { stack = []; entries = [] }) l.held l.map

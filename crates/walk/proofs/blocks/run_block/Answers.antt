@@ -25,17 +25,17 @@ overflow_add-stepped c = record { fits = omega (arith, (block_few c.requires.0 c
 pub overflow_add-stepped-in-loop-l : goal.overflow_add-stepped-in-loop-l
 overflow_add-stepped-in-loop-l c = record { fits = omega (arith, (block_few c.requires.0 c.requires.1 c.loop-l.invariant.0).1) }
 
-pub returns-in-Nowhere : goal.returns-in-Nowhere
-returns-in-Nowhere c = (cells_own c.run-r.ensures.cells, rw (c.mark_run-in-loop-l.ensures, c.word_number-w.ensures) (block_leaves c.requires.0 c.requires.1 c.loop-l.invariant.0 (rw c.data_from-code.ensures.result_value at ((halted c.run-r.ensures))) (sym c.is_ended.ensures ∙ c.if-is_ended.false) (sym c.jump_in.ensures ∙ c.in-Nowhere.is)))
+pub returns-in-None : goal.returns-in-None
+returns-in-None c = (cells_own c.run-r.ensures.cells, rw (c.mark_run-in-loop-l.ensures, c.word_number-w.ensures) (block_leaves c.requires.0 c.requires.1 c.loop-l.invariant.0 (rw c.data_from-code.ensures.result_value at ((halted c.run-r.ensures))) (sym c.is_ended.ensures ∙ c.if-is_ended.false) (sym c.jump_in.ensures ∙ c.in-None.is)))
 
 pub overflow_add-begun : goal.overflow_add-begun
 overflow_add-begun c = record { fits = omega (arith, (block_few c.requires.0 c.requires.1 c.loop-l.invariant.0).0) }
 
 pub loop-l-smaller : goal.loop-l-smaller
-loop-l-smaller c = rw (c.mark_run-in-loop-l.ensures, c.word_number-w.ensures) (block_falls c.requires.0 c.requires.1 c.loop-l.invariant.0 (rw c.data_from-code.ensures.result_value at ((halted c.run-r.ensures))) (sym c.is_ended.ensures ∙ c.if-is_ended.false) (sym c.jump_in.ensures ∙ c.in-At.is) (sym (rw (c.mark_run-in-loop-l.ensures, c.word_number-w.ensures) at c.is_new.ensures) ∙ c.if-is_new.true))
+loop-l-smaller c = rw (c.mark_run-in-loop-l.ensures, c.word_number-w.ensures) (block_falls c.requires.0 c.requires.1 c.loop-l.invariant.0 (rw c.data_from-code.ensures.result_value at ((halted c.run-r.ensures))) (sym c.is_ended.ensures ∙ c.if-is_ended.false) (sym c.jump_in.ensures ∙ c.in-Some.is) (sym (rw (c.mark_run-in-loop-l.ensures, c.word_number-w.ensures) at c.is_new.ensures) ∙ c.if-is_new.true))
 
 pub loop-l-preserved : goal.loop-l-preserved
-loop-l-preserved c = (rw (c.mark_run-in-loop-l.ensures, c.word_number-w.ensures) (block_jumps c.requires.0 c.requires.1 c.loop-l.invariant.0 (rw c.data_from-code.ensures.result_value at ((halted c.run-r.ensures))) (sym c.is_ended.ensures ∙ c.if-is_ended.false) (sym c.jump_in.ensures ∙ c.in-At.is) (sym (rw (c.mark_run-in-loop-l.ensures, c.word_number-w.ensures) at c.is_new.ensures) ∙ c.if-is_new.true)), cells_own c.run-r.ensures.cells)
+loop-l-preserved c = (rw (c.mark_run-in-loop-l.ensures, c.word_number-w.ensures) (block_jumps c.requires.0 c.requires.1 c.loop-l.invariant.0 (rw c.data_from-code.ensures.result_value at ((halted c.run-r.ensures))) (sym c.is_ended.ensures ∙ c.if-is_ended.false) (sym c.jump_in.ensures ∙ c.in-Some.is) (sym (rw (c.mark_run-in-loop-l.ensures, c.word_number-w.ensures) at c.is_new.ensures) ∙ c.if-is_new.true)), cells_own c.run-r.ensures.cells)
 
-pub returns-in-At : goal.returns-in-At
-returns-in-At c = (cells_own c.run-r.ensures.cells, rw (c.mark_run-in-loop-l.ensures, c.word_number-w.ensures) (block_stays c.requires.0 c.requires.1 c.loop-l.invariant.0 (rw c.data_from-code.ensures.result_value at ((halted c.run-r.ensures))) (sym c.is_ended.ensures ∙ c.if-is_ended.false) (sym c.jump_in.ensures ∙ c.in-At.is) (sym (rw (c.mark_run-in-loop-l.ensures, c.word_number-w.ensures) at c.is_new.ensures) ∙ c.if-is_new.false)))
+pub returns-in-Some : goal.returns-in-Some
+returns-in-Some c = (cells_own c.run-r.ensures.cells, rw (c.mark_run-in-loop-l.ensures, c.word_number-w.ensures) (block_stays c.requires.0 c.requires.1 c.loop-l.invariant.0 (rw c.data_from-code.ensures.result_value at ((halted c.run-r.ensures))) (sym c.is_ended.ensures ∙ c.if-is_ended.false) (sym c.jump_in.ensures ∙ c.in-Some.is) (sym (rw (c.mark_run-in-loop-l.ensures, c.word_number-w.ensures) at c.is_new.ensures) ∙ c.if-is_new.false)))
