@@ -9,8 +9,8 @@ returns-in-Err c = rw (sym c.relocation_target_for.ensures ∙ c.in-Err.is)
 
 pub returns-in-Ok-Some : goal.returns-in-Ok-Some
 unfolding guessed_reading
-returns-in-Ok-Some c = rw (c.guessed_target.ensures, sym c.relocation_target_for.ensures ∙ c.in-Ok-Some.is)
+returns-in-Ok-Some c = rw (c.guessed_target.ensures, sym c.relocation_target_for.ensures ∙ c.in-Ok-Some.is, c.in-Ok-Some.field-0-is)
 
 pub returns-in-Ok-None : goal.returns-in-Ok-None
 unfolding guessed_reading
-returns-in-Ok-None c = rw (c.guessed_word.ensures, c.read_u32.ensures, sym c.relocation_target_for.ensures ∙ c.in-Ok-None.is)
+returns-in-Ok-None c = rw (c.guessed_word.ensures, c.read_u32.ensures, sym c.relocation_target_for.ensures ∙ c.in-Ok-None.is, c.in-Ok-None.field-0-is)
