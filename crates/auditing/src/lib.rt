@@ -2,7 +2,7 @@
 // The work is in the crates below; what is read and written here is tested, not proved.
 #![tactic(auto)]
 
-ghost use Rattle.std.specs.Prelude.{◌≡◌, true, length};
+ghost use Rattle.std.specs.Prelude.{◌≡◌, ◌^◌, ◌<◌, true, length};
 ghost use Rattle.image.specs.Rules.{sound};
 
 use image::Judged;
@@ -59,8 +59,8 @@ fn has_more<I: Read>(input: &mut I) -> io::Result<bool> {
 }
 
 fn parse<R: Print + Eprint + Env + Files>(rt: &R, file: &[u8], o: Options) -> io::Result<()> {
-    let mut im = [0u32; rooms::IMAGE];
-    let mut starts = [0u64; rooms::STARTS];
+    let mut im: [u32; rooms::IMAGE] = rooms::filled(0);
+    let mut starts: [u64; rooms::STARTS] = rooms::filled(0);
     match image_file::read_file(file, &mut im, &mut starts) {
         Err(fault) => refusals::no_file(rt, fault, image_file::whole_length(file)),
         Ok(h) => judge(rt, image_file::data_of(file), &im, &starts, h, o),
@@ -102,7 +102,7 @@ fn judge<R: Print + Eprint + Env + Files>(
 const FEW_STARTS: usize = 256;
 
 fn walk_file<R: Print + Eprint + Env + Files>(rt: &R, f: SoundFile, o: Options) -> io::Result<()> {
-    let mut map = [0u32; rooms::MAP];
+    let mut map: [u32; rooms::MAP] = rooms::filled(0);
     if f.starts.len() <= FEW_STARTS {
         let w = walk_in::<{ rooms::SMALL_STACK }>(f, &mut map);
         if !is_full(w) {
@@ -115,8 +115,10 @@ fn walk_file<R: Print + Eprint + Env + Files>(rt: &R, f: SoundFile, o: Options) 
 }
 
 // The walk with a stack of so many words.
-fn walk_in<const WORDS: usize>(f: SoundFile, map: &mut [u32]) -> Walked {
-    let mut stack = [0u32; WORDS];
+fn walk_in<const WORDS: usize>(f: SoundFile, map: &mut [u32]) -> Walked
+    requires { WORDS < 2 ^ 32 }
+{
+    let mut stack: [u32; WORDS] = rooms::filled(0);
     let mut entries = [0u64; TABLE_ROOM];
     let h = f.head;
     let two = h.two;

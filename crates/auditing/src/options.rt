@@ -45,13 +45,13 @@ fn count(rt: &impl Env) -> usize {
 }
 
 // What argument i asks for, or None where it is not known.
-fn asked(rt: &impl Env, i: usize) -> Option<Asked> {
+fn option_at(rt: &impl Env, i: usize) -> Option<Asked> {
     let mut text = [0u8; 16];
     let n = argument(rt, i, &mut text);
-    if text[..n] == *b"--lines" {
+    if &text[..n] == b"--lines".as_slice() {
         return Some(Asked::Lines);
     }
-    if text[..n] == *b"--report" {
+    if &text[..n] == b"--report".as_slice() {
         return Some(Asked::Report);
     }
     None
@@ -67,7 +67,7 @@ pub(crate) fn read(rt: &impl Env) -> Option<Options> {
     let mut i: usize = 1;
     // A while: an option takes one argument or two, which no range says.
     while i < n {
-        match asked(rt, i)? {
+        match option_at(rt, i)? {
             Asked::Lines => {
                 o.lines = true;
                 i += 1;

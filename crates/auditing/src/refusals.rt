@@ -95,7 +95,10 @@ pub(crate) fn bad_start(rt: &impl Print, im: &[u32], starts: &[u64]) -> io::Resu
 }
 
 fn tell_start(rt: &impl Print, answer: u32, i: usize, p: SectionAddress) -> io::Result<()> {
-    print!(rt; "refused, {answer}: start {i}, section {}, address {:08x}", p.section, p.address)
+    print!(rt;
+        "refused, {answer}: start {i}, section {}, address {:08x}",
+        p.section, p.address
+    )
 }
 
 fn place_of(key: u64) -> SectionAddress {

@@ -1,4 +1,12 @@
-// The sizes of the program's buffers. The limits that they set stand in docs/FORMATS.md, "The image file".
+// The program's buffers, and their sizes. The limits that they set stand in docs/FORMATS.md, "The image file".
+ghost use Rattle.std.specs.Prelude.{◌≡◌, length};
+
+// N of one number. A function of its own: a caller that writes so large an array itself takes the check minutes.
+pub(crate) fn filled<T: Copy, const N: usize>(x: T) -> [T; N]
+    ensures { N ≡ length result }
+{
+    [x; N]
+}
 
 // The words of 64 sections and 4,096 entries in each further table, of which there are 65,926.
 pub(crate) const IMAGE: usize = 66000;

@@ -16,7 +16,7 @@ pub(crate) fn report<R: Eprint + Env + Files>(
     map: &[u32],
     arg: usize,
 ) -> bool {
-    let mut bytes = [0u8; rooms::REPORT];
+    let mut bytes: [u8; rooms::REPORT] = rooms::filled(0);
     match report::write_report(im, data, map, &mut bytes) {
         Ok(n) if n <= bytes.len() => save(rt, &bytes[..n], arg),
         _ => false,
@@ -24,7 +24,7 @@ pub(crate) fn report<R: Eprint + Env + Files>(
 }
 
 fn save<R: Eprint + Env + Files>(rt: &R, bytes: &[u8], arg: usize) -> bool {
-    let mut path = [0u8; rooms::PATH];
+    let mut path: [u8; rooms::PATH] = rooms::filled(0);
     let k = argument(rt, arg, &mut path);
     match std::str::from_utf8(&path[..k]) {
         Ok(name) => save_as(rt, bytes, name),

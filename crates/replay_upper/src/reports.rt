@@ -1,44 +1,48 @@
 // Reports, written and read: docs/FORMATS.md, kinds 11 and 12.
 use crate::rooms;
+use exchange::case::Case;
 use exchange::file::least;
-use exchange::{print, read};
+use exchange::line::Line;
+use streams::room;
 
 // A report of the case's map, in its buffer.
-pub(crate) fn write(p: &[u32], im: &[u32], data: &[u8], line: &mut [u32]) -> usize {
-    let mut map = [0u32; rooms::MAP];
-    let mut out = [0u8; rooms::REPORT];
-    let m = least(read::word(p, 0) as usize, rooms::MAP);
-    read::copy_words(p, 1, &mut map, m);
-    let room = least(read::word(p, m + 1) as usize, rooms::REPORT);
-    out.fill((read::word(p, m + 2) % 256) as u8);
-    write_in(im, data, &map[..m], &mut out[..room], line)
+pub(crate) fn write(case: Case, line: &mut Line) {
+    let mut map: [u32; rooms::MAP] = room(0);
+    let mut out: [u8; rooms::REPORT] = room(0);
+    let mut p = case.words;
+    let m = least(p.word() as usize, rooms::MAP);
+    p.fill_words(&mut map[..m]);
+    let size = least(p.word() as usize, rooms::REPORT);
+    out.fill((p.word() % 256) as u8);
+    write_in(case, &map[..m], &mut out[..size], line);
 }
 
-fn write_in(im: &[u32], data: &[u8], map: &[u32], out: &mut [u8], line: &mut [u32]) -> usize {
-    let (answer, length) = match report::write_report(im, data, map, out) {
-        Ok(n) => (0, (n % 0x1_0000_0000) as u32),
-        Err(e) => (u32::from(e), 0),
-    };
-    let at = print::word(line, 0, answer);
-    let at = print::word(line, at, length);
-    print::packed(line, at, out)
+fn write_in(case: Case, map: &[u32], out: &mut [u8], line: &mut Line) {
+    match report::write_report(case.image, case.data, map, out) {
+        Ok(n) => {
+            line.word(0);
+            line.count(n);
+        }
+        Err(e) => line.many(&[u32::from(e), 0]),
+    }
+    line.packed(out);
 }
 
-pub(crate) fn read(p: &[u32], im: &[u32], data: &[u8], line: &mut [u32]) -> usize {
-    let mut map = [0u32; rooms::MAP];
-    let mut bytes = [0u8; rooms::REPORT];
-    let m = least(read::word(p, 0) as usize, rooms::MAP);
-    read::copy_words(p, 1, &mut map, m);
-    let n = least(read::word(p, m + 1) as usize, rooms::REPORT);
-    read::copy_bytes(p, m + 2, &mut bytes, n);
-    read_in(im, data, &bytes[..n], &mut map[..m], line)
+pub(crate) fn read(case: Case, line: &mut Line) {
+    let mut map: [u32; rooms::MAP] = room(0);
+    let mut bytes: [u8; rooms::REPORT] = room(0);
+    let mut p = case.words;
+    let m = least(p.word() as usize, rooms::MAP);
+    p.fill_words(&mut map[..m]);
+    let n = least(p.word() as usize, rooms::REPORT);
+    p.fill_bytes(&mut bytes[..n]);
+    read_in(case, &bytes[..n], &mut map[..m], line);
 }
 
-fn read_in(im: &[u32], data: &[u8], bytes: &[u8], map: &mut [u32], line: &mut [u32]) -> usize {
-    let answer = match report::read_report(im, data, bytes, map) {
-        Ok(_) => 0,
-        Err(e) => u32::from(e),
-    };
-    let at = print::word(line, 0, answer);
-    print::many(line, at, map)
+fn read_in(case: Case, bytes: &[u8], map: &mut [u32], line: &mut Line) {
+    match report::read_report(case.image, case.data, bytes, map) {
+        Ok(_) => line.word(0),
+        Err(e) => line.word(u32::from(e)),
+    }
+    line.many(map);
 }

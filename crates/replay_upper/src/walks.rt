@@ -1,68 +1,56 @@
 // Walks: docs/FORMATS.md, kind 10.
 use crate::rooms;
+use exchange::case::{Case, Words};
 use exchange::file::least;
-use exchange::read::plus;
-use exchange::{print, read, stacks};
+use exchange::line::Line;
+use exchange::stacks;
+use streams::room;
 use turns::{WalkAnswer, Walked};
 use vm::MaybeBase;
 
-pub(crate) fn walk(p: &[u32], im: &[u32], data: &[u8], line: &mut [u32]) -> usize {
-    let mut map = [read::word(p, 2); rooms::MAP];
-    let mut stack = [0u32; rooms::STACK];
-    let mut starts = [0u64; rooms::STARTS];
-    read_starts(p, &mut starts);
-    let words = least(stacks::words_of(read::word(p, 0)), rooms::STACK);
-    let m = least(read::word(p, 1) as usize, rooms::MAP);
-    let n = least(read::word(p, 12) as usize, rooms::STARTS);
-    walk_in(
-        p,
-        im,
-        data,
-        &starts[..n],
-        &mut map[..m],
-        &mut stack[..words],
-        line,
-    )
+// A case's first words: the slots, how many words the map has and what fills it. The walk's own words follow.
+pub(crate) fn walk(case: Case, line: &mut Line) {
+    let mut p = case.words;
+    let words = least(stacks::words_of(p.word()), rooms::STACK);
+    let m = least(p.word() as usize, rooms::MAP);
+    let mut map: [u32; rooms::MAP] = room(p.word());
+    let mut stack: [u32; rooms::STACK] = room(0);
+    walk_in(case, p, &mut map[..m], &mut stack[..words], line);
 }
 
 // A start: its section times 2^32 plus its address.
-fn key(p: &[u32], at: usize) -> u64 {
-    let section = read::word(p, at) as u64;
-    let address = read::word(p, plus(at, 1)) as u64;
+fn key(p: &mut Words) -> u64 {
+    let section = u64::from(p.word());
+    let address = u64::from(p.word());
     section * 0x1_0000_0000 + address
 }
 
-fn read_starts(p: &[u32], starts: &mut [u64]) {
-    for (i, start) in starts.iter_mut().enumerate() {
-        *start = key(p, plus(13, i * 2));
+fn base(p: &mut Words) -> MaybeBase {
+    let given = p.word() == 1;
+    let number = p.word();
+    if given {
+        MaybeBase::Value(number)
+    } else {
+        MaybeBase::Unset
     }
 }
 
-fn base(p: &[u32], i: usize) -> MaybeBase {
-    if read::word(p, i) == 1 {
-        return MaybeBase::Value(read::word(p, plus(i, 1)));
+fn walk_in(case: Case, asked: Words, map: &mut [u32], stack: &mut [u32], line: &mut Line) {
+    let mut p = asked;
+    let two = base(&mut p);
+    let thirteen = base(&mut p);
+    let from = p.place();
+    let upto = p.maybe_place();
+    let n = least(p.word() as usize, rooms::STARTS);
+    let mut starts: [u64; rooms::STARTS] = room(0);
+    for start in starts.iter_mut() {
+        *start = key(&mut p);
     }
-    MaybeBase::Unset
-}
-
-fn walk_in(
-    p: &[u32],
-    im: &[u32],
-    data: &[u8],
-    starts: &[u64],
-    map: &mut [u32],
-    stack: &mut [u32],
-    line: &mut [u32],
-) -> usize {
-    let two = base(p, 3);
-    let thirteen = base(p, 5);
-    let from = read::place(p, 7);
-    let upto = read::maybe_place(p, 9);
     let mut entries = [0u64; 1024];
     let w = walk::walk(
-        im,
-        data,
-        starts,
+        case.image,
+        case.data,
+        &starts[..n],
         two,
         thirteen,
         from,
@@ -71,15 +59,17 @@ fn walk_in(
         stack,
         &mut entries,
     );
-    walked(line, w, map, stack)
+    walked(w, map, stack, line);
 }
 
-fn walked(line: &mut [u32], w: Walked, map: &[u32], stack: &[u32]) -> usize {
-    let answer = w.answer;
-    let at = print::word(line, 0, number(answer));
-    let at = counts(line, at, w);
-    let at = print::many(line, at, map);
-    stacks::held(stack, w.held, line, at)
+fn walked(w: Walked, map: &[u32], stack: &[u32], line: &mut Line) {
+    line.word(number(w.answer));
+    line.long(w.stepped);
+    line.long(w.begun);
+    line.long(w.read);
+    line.long(w.not_read);
+    line.many(map);
+    stacks::held(stack, w.held, line);
 }
 
 fn number(a: WalkAnswer) -> u32 {
@@ -91,11 +81,4 @@ fn number(a: WalkAnswer) -> u32 {
         WalkAnswer::MapTooSmall => 4,
         WalkAnswer::StackFull => 5,
     }
-}
-
-fn counts(line: &mut [u32], at: usize, w: Walked) -> usize {
-    let at = print::long(line, at, w.stepped);
-    let at = print::long(line, at, w.begun);
-    let at = print::long(line, at, w.read);
-    print::long(line, at, w.not_read)
 }
