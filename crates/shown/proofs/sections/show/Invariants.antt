@@ -1,7 +1,7 @@
 -- `shown::sections::show` meets its contract.
 use Rattle.image.specs.Rules.{words_before}
 use Rattle.image.specs.Layout.{sections}
-use Prim.Native.Nat.{◌-◌, ◌≤◌}
+use Prim.Native.Nat.{◌≤◌}
 use mathlib.Core.Path.{◌≡◌}
 use Rattle.shown.proofs.sections.show.Given as goal
 

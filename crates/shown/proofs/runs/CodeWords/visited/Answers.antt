@@ -1,6 +1,5 @@
 -- `shown::runs::CodeWords::visited` meets its contract.
 use Rattle.std.proofs.Common.{ℕ, suc, List, true, false, ◌≡◌, ◌+◌, sym, ap, ◌∙◌, add-one, arith}
-use Rattle.words.specs.Choice.{pick}
 use Rattle.shown.specs.Counted.{visited_in}
 use Rattle.shown.proofs.Counting.{one_more}
 use Rattle.shown.proofs.runs.CodeWords.visited.Goals as goal
