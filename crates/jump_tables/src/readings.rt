@@ -60,7 +60,11 @@ fn sized_target(t: RelocationTarget) -> Reading
     }
 }
 
-fn guessed_target(t: RelocationTarget, start: SectionAddress, end: Option<SectionAddress>) -> Reading
+fn guessed_target(
+    t: RelocationTarget,
+    start: SectionAddress,
+    end: Option<SectionAddress>,
+) -> Reading
     ensures { result ≡ guessed_target start end t }
 {
     match t {
@@ -85,7 +89,12 @@ fn sized_word(im: &[u32], w: Option<u32>) -> Reading
     }
 }
 
-fn guessed_word(im: &[u32], w: Option<u32>, start: SectionAddress, end: Option<SectionAddress>) -> Reading
+fn guessed_word(
+    im: &[u32],
+    w: Option<u32>,
+    start: SectionAddress,
+    end: Option<SectionAddress>,
+) -> Reading
     requires { tables_sound im.now ≡ true }
     ensures { result ≡ guessed_word im.now start end w }
 {

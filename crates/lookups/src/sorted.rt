@@ -39,7 +39,13 @@ pub fn known_size(im: &[u32], at: SectionAddress) -> u32
 }
 
 // The place among n that begin at a word and stand a stride of words apart.
-fn index_by_halves(im: &[u32], from: usize, stride: usize, n: usize, at: SectionAddress) -> Option<usize>
+fn index_by_halves(
+    im: &[u32],
+    from: usize,
+    stride: usize,
+    n: usize,
+    at: SectionAddress,
+) -> Option<usize>
     requires le_stride { (2 ≤ stride) × (from + n * stride ≤ length im.now) }
     requires n_value { ascending (places_at im.now from stride) n ≡ true }
     ensures { result ≡ first (here_of (places_at im.now from stride) at) n }

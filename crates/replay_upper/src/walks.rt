@@ -27,11 +27,7 @@ fn key(p: &mut Words) -> u64 {
 fn base(p: &mut Words) -> Option<u32> {
     let given = p.word() == 1;
     let number = p.word();
-    if given {
-        Some(number)
-    } else {
-        None
-    }
+    if given { Some(number) } else { None }
 }
 
 fn walk_in(case: Case, asked: Words, map: &mut [u32], stack: &mut [u32], line: &mut Line) {

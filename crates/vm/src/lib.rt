@@ -7,7 +7,7 @@ pub mod rule;
 pub mod splits;
 pub mod state;
 
-use places::{SectionAddress, RelocationTarget};
+use places::{RelocationTarget, SectionAddress};
 
 // What is known of a register's value.
 #[derive(Clone, Copy)]

@@ -113,11 +113,7 @@ pub fn rlwnm(value: GprValue, amount: GprValue, mask: u32) -> GprValue
 pub fn non_zero(n: u32) -> Option<u32>
     ensures { result ≡ non_zero n }
 {
-    if n == 0 {
-        None
-    } else {
-        Some(n)
-    }
+    if n == 0 { None } else { Some(n) }
 }
 
 // What an index tells of the largest offset: a Range's max, if it is a multiple of 4 and 4 more still counts.
