@@ -15,7 +15,7 @@ use places::{RelocationTarget, SectionAddress};
 use search::first;
 use words::sum::wrapping_add;
 
-// What the tables say of a place: the bound one first, then the unbound one. Nothing where neither has an entry.
+// What the tables say of a place: the bound one first, then the unbound one. None where neither has an entry.
 // Error for another kind than the wanted one, for an unbound target in no section, and for an address of 2^32 or more.
 pub fn relocation_target_for(im: &[u32], at: SectionAddress, wanted: Wanted) -> Relocation
     requires { tables_sound im.now ≡ true }
@@ -44,7 +44,7 @@ pub fn target_at(im: &[u32], at: SectionAddress) -> Option<RelocationTarget>
 }
 
 // Where a value at an instruction points: the relocation there if any; else, Executable, the section that holds the
-// value; else the instruction's own section if it holds it; else Missing.
+// value; else the instruction's own section if it holds it; else None.
 pub fn section_address_for(im: &[u32], at: SectionAddress, value: u32) -> Option<RelocationTarget>
     requires { tables_sound im.now ≡ true }
     ensures { result ≡ section_address_for im.now at value }

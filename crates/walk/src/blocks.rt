@@ -76,6 +76,7 @@ pub fn run_block(
     let mut p = from;
     let mut stepped: u64 = 0;
     let mut begun: u64 = 0;
+    // No for: a block goes on by its jumps.
     loop {
         let code = lookups::data_from(im, bytes, p);
         let r = runs::run(im, code, p, cells);
