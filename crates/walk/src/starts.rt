@@ -1,6 +1,6 @@
 // What comes before the first block: judging, and the starts pushed.
 // Requires nothing; the image may be broken.
-ghost use Rattle.std.specs.Prelude.{◌≡◌, true, Ok, Option};
+ghost use Rattle.std.specs.Prelude.{◌≡◌, true, ℕ, Ok, Option};
 ghost use Rattle.places.specs.declared.SectionAddress.{SectionAddress};
 ghost use Rattle.image.specs.Rules.{tables_sound};
 ghost use Rattle.lookups.specs.Code.{code_place};
