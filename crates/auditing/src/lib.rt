@@ -2,16 +2,17 @@
 // The work is in the crates below; what is read and written here is tested, not proved.
 #![tactic(auto)]
 
-ghost use Rattle.std.specs.Prelude.{◌≡◌, true, length};
+ghost use Rattle.std.specs.Prelude.{◌≡◌, ◌^◌, ◌<◌, true, length};
 ghost use Rattle.image.specs.Rules.{sound};
 
-use image::Judged;
-use image_file::{Head, Parsed};
+use image::BrokenImage;
+use image_file::Head;
 use std::io;
 use std::io::Read;
 use std::rt::{Env, Files};
 use streams::read_full;
-use turns::{WalkAnswer, Walked};
+use turns::{WalkError, Walked};
+use walk::TABLE_ROOM;
 
 mod options;
 mod refusals;
@@ -20,7 +21,17 @@ mod save;
 mod which;
 
 use options::Options;
-use shown::{counts, say, sections};
+use shown::{counts, sections};
+
+// A sound image with its data, the starts, and what the file's head says besides.
+#[derive(Clone, Copy)]
+struct SoundFile<'a> {
+    im: &'a [u32],
+    data: &'a [u8],
+    starts: &'a [u64],
+    head: Head,
+    ghost is_sound: { sound im.now (length «data».now) ≡ true },
+}
 
 // The whole audit, in a buffer that the file must fit in. The last line written says how it ended.
 pub fn run<R: Print + Eprint + Env + Files, I: Read>(
@@ -28,10 +39,9 @@ pub fn run<R: Print + Eprint + Env + Files, I: Read>(
     input: &mut I,
     file: &mut [u8],
 ) -> io::Result<()> {
-    let o = options::read(rt);
-    if !o.known {
-        return say::line(rt, b"unknown option");
-    }
+    let Some(o) = options::read(rt) else {
+        return println!(rt; "unknown option");
+    };
     let n = read_full(input, file)?;
     if n == file.len() {
         if has_more(input)? {
@@ -49,11 +59,11 @@ fn has_more<I: Read>(input: &mut I) -> io::Result<bool> {
 }
 
 fn parse<R: Print + Eprint + Env + Files>(rt: &R, file: &[u8], o: Options) -> io::Result<()> {
-    let mut im = rooms::image();
-    let mut starts = rooms::starts();
+    let mut im: [u32; rooms::IMAGE] = rooms::filled(0);
+    let mut starts: [u64; rooms::STARTS] = rooms::filled(0);
     match image_file::read_file(file, &mut im, &mut starts) {
-        Parsed::Bad(wrong, at) => refusals::no_file(rt, wrong, at, image_file::whole_length(file)),
-        Parsed::File(h) => judge(rt, image_file::data_of(file), &im, &starts, h, o),
+        Err(fault) => refusals::no_file(rt, fault, image_file::whole_length(file)),
+        Ok(h) => judge(rt, image_file::data_of(file), &im, &starts, h, o),
     }
 }
 
@@ -63,35 +73,27 @@ fn judge<R: Print + Eprint + Env + Files>(
     data: &[u8],
     im: &[u32],
     starts: &[u64],
-    h: Head,
+    head: Head,
     o: Options,
 ) -> io::Result<()> {
-    let words = h.words as usize;
-    let count = h.starts as usize;
-    if words <= im.len() {
-        if count <= starts.len() {
-            return judge_image(rt, data, &im[..words], &starts[..count], h, o);
-        }
+    let words = head.words as usize;
+    let count = head.starts as usize;
+    if im.len() < words || starts.len() < count {
+        return Ok(());
     }
-    Ok(())
-}
-
-fn judge_image<R: Print + Eprint + Env + Files>(
-    rt: &R,
-    data: &[u8],
-    im: &[u32],
-    starts: &[u64],
-    h: Head,
-    o: Options,
-) -> io::Result<()> {
+    let im = &im[..words];
+    let starts = &starts[..count];
     match image::check_image(im, data) {
-        Judged::Broken => refusals::broken_image(
-            rt,
-            faults::broken_rule(im, data.len()),
-            im,
-            data.len(),
-        ),
-        Judged::Sound => walk_image(rt, data, im, starts, h, o),
+        Err(_) => refusals::broken_image(rt, im, data.len()),
+        Ok(()) => {
+            let file = SoundFile {
+                im,
+                data,
+                starts,
+                head,
+            };
+            walk_file(rt, file, o)
+        }
     }
 }
 
@@ -99,147 +101,79 @@ fn judge_image<R: Print + Eprint + Env + Files>(
 // clear than a small program takes to walk.
 const FEW_STARTS: usize = 256;
 
-fn walk_image<R: Print + Eprint + Env + Files>(
-    rt: &R,
-    data: &[u8],
-    im: &[u32],
-    starts: &[u64],
-    h: Head,
-    o: Options,
-) -> io::Result<()>
-    requires { sound im.now (length «data».now) ≡ true }
-{
-    if starts.len() <= FEW_STARTS {
-        if walk_few(rt, data, im, starts, h, o)? {
-            return Ok(());
+fn walk_file<R: Print + Eprint + Env + Files>(rt: &R, f: SoundFile, o: Options) -> io::Result<()> {
+    let mut map: [u32; rooms::MAP] = rooms::filled(0);
+    if f.starts.len() <= FEW_STARTS {
+        let w = walk_in::<{ rooms::SMALL_STACK }>(f, &mut map);
+        if !is_full(w) {
+            return show(rt, f, &map, w, o);
         }
+        map.fill(0);
     }
-    walk_many(rt, data, im, starts, h, o)
+    let w = walk_in::<{ rooms::STACK }>(f, &mut map);
+    show(rt, f, &map, w, o)
 }
 
-// Whether the small room was enough. If not, nothing was written.
-fn walk_few<R: Print + Eprint + Env + Files>(
-    rt: &R,
-    data: &[u8],
-    im: &[u32],
-    starts: &[u64],
-    h: Head,
-    o: Options,
-) -> io::Result<bool>
-    requires { sound im.now (length «data».now) ≡ true }
+// The walk with a stack of so many words.
+fn walk_in<const WORDS: usize>(f: SoundFile, map: &mut [u32]) -> Walked
+    requires { WORDS < 2 ^ 32 }
 {
+    let mut stack: [u32; WORDS] = rooms::filled(0);
+    let mut entries = [0u64; TABLE_ROOM];
+    let h = f.head;
     let two = h.two;
     let thirteen = h.thirteen;
-    let from = h.from;
     let upto = h.upto;
-    let mut map = rooms::map();
-    let mut stack = rooms::small_stack();
-    let mut entries = [0u64; 1024];
-    let w = walk::walk(
-        im,
-        data,
-        starts,
+    walk::walk(
+        f.im,
+        f.data,
+        f.starts,
         two,
         thirteen,
-        from,
+        h.from,
         upto,
-        &mut map,
+        map,
         &mut stack,
         &mut entries,
-    );
-    if is_full(w) {
-        return Ok(false);
-    }
-    show(rt, data, im, starts, &map, w, o)?;
-    Ok(true)
+    )
 }
 
 fn is_full(w: Walked) -> bool {
-    let answer = w.answer;
-    match answer {
-        WalkAnswer::StackFull => true,
-        _ => false,
-    }
-}
-
-fn walk_many<R: Print + Eprint + Env + Files>(
-    rt: &R,
-    data: &[u8],
-    im: &[u32],
-    starts: &[u64],
-    h: Head,
-    o: Options,
-) -> io::Result<()>
-    requires { sound im.now (length «data».now) ≡ true }
-{
-    let two = h.two;
-    let thirteen = h.thirteen;
-    let from = h.from;
-    let upto = h.upto;
-    let mut map = rooms::map();
-    let mut stack = rooms::stack();
-    let mut entries = [0u64; 1024];
-    let w = walk::walk(
-        im,
-        data,
-        starts,
-        two,
-        thirteen,
-        from,
-        upto,
-        &mut map,
-        &mut stack,
-        &mut entries,
-    );
-    show(rt, data, im, starts, &map, w, o)
+    matches!(w.answer, Err(WalkError::StackFull))
 }
 
 // What the walk answered, in the order in which a person wants it.
 fn show<R: Print + Eprint + Env + Files>(
     rt: &R,
-    data: &[u8],
-    im: &[u32],
-    starts: &[u64],
+    f: SoundFile,
     map: &[u32],
     w: Walked,
     o: Options,
-) -> io::Result<()>
-    requires { sound im.now (length «data».now) ≡ true }
-{
-    let answer = w.answer;
-    match answer {
-        WalkAnswer::BrokenImage => refusals::broken_image(
-            rt,
-            faults::broken_rule(im, data.len()),
-            im,
-            data.len(),
-        ),
-        WalkAnswer::NotCode => refusals::bad_start(rt, im, starts),
-        WalkAnswer::Misaligned => refusals::bad_start(rt, im, starts),
-        WalkAnswer::MapTooSmall => refusals::small_map(rt),
-        WalkAnswer::Done => show_all(rt, data, im, starts, map, w, o, b"ok"),
-        WalkAnswer::StackFull => show_all(rt, data, im, starts, map, w, o, b"answer 5"),
+) -> io::Result<()> {
+    match w.answer {
+        Err(WalkError::BrokenImage) => refusals::broken_image(rt, f.im, f.data.len()),
+        Err(WalkError::NotCode) => refusals::bad_start(rt, f.im, f.starts),
+        Err(WalkError::Misaligned) => refusals::bad_start(rt, f.im, f.starts),
+        Err(WalkError::MapTooSmall) => refusals::small_map(rt),
+        Ok(()) => show_all(rt, f, map, w, o, "ok"),
+        Err(WalkError::StackFull) => show_all(rt, f, map, w, o, "answer 5"),
     }
 }
 
 fn show_all<R: Print + Eprint + Env + Files>(
     rt: &R,
-    data: &[u8],
-    im: &[u32],
-    starts: &[u64],
+    f: SoundFile,
     map: &[u32],
     w: Walked,
     o: Options,
-    last: &[u8],
-) -> io::Result<()>
-    requires { sound im.now (length «data».now) ≡ true }
-{
-    counts::show(rt, im, starts.len() as u64, map, w, o.lines)?;
-    sections::show(rt, im, map, o.lines)?;
-    if o.report != 0 {
-        if !save::report(rt, im, data, map, o.report) {
-            return say::line(rt, b"report not written");
+    last: &str,
+) -> io::Result<()> {
+    counts::show(rt, f.im, f.starts.len() as u64, map, w, o.lines)?;
+    sections::show(rt, f.im, map, o.lines)?;
+    if let Some(arg) = o.report {
+        if !save::report(rt, f.im, f.data, map, arg) {
+            return println!(rt; "report not written");
         }
     }
-    say::line(rt, last)
+    println!(rt; "{last}")
 }

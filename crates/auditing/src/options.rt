@@ -4,33 +4,17 @@ ghost use Rattle.std.specs.Prelude.{◌≤◌, length};
 use std::env::FillError;
 use std::rt::Env;
 
-// Whether all were known, whether a script reads the lines, and which argument names the report's file (0: none).
+// Whether a script reads the lines, and which argument names the report's file, where one does.
 #[derive(Clone, Copy)]
 pub(crate) struct Options {
-    pub(crate) known: bool,
     pub(crate) lines: bool,
-    pub(crate) report: usize,
+    pub(crate) report: Option<usize>,
 }
 
 #[derive(Clone, Copy)]
 enum Asked {
     Lines,
     Report,
-    Other,
-}
-
-fn same(a: &[u8], b: &[u8]) -> bool {
-    if a.len() != b.len() {
-        return false;
-    }
-    let mut i = 0;
-    while i < a.len() {
-        if a[i] != b[i] {
-            return false;
-        }
-        i += 1;
-    }
-    true
 }
 
 // Argument i at the start of a text: its length, or 0 where it is missing or longer than that.
@@ -60,55 +44,42 @@ fn count(rt: &impl Env) -> usize {
     usize::MAX
 }
 
-// What argument i is.
-fn word(rt: &impl Env, i: usize) -> Asked {
+// What argument i asks for, or None where it is not known.
+fn option_at(rt: &impl Env, i: usize) -> Option<Asked> {
     let mut text = [0u8; 16];
     let n = argument(rt, i, &mut text);
-    if same(&text[..n], b"--lines") {
-        return Asked::Lines;
+    if &text[..n] == b"--lines".as_slice() {
+        return Some(Asked::Lines);
     }
-    if same(&text[..n], b"--report") {
-        return Asked::Report;
+    if &text[..n] == b"--report".as_slice() {
+        return Some(Asked::Report);
     }
-    Asked::Other
+    None
 }
 
-pub(crate) fn read(rt: &impl Env) -> Options {
+// The options, or None where an argument is not known or the report's name is missing.
+pub(crate) fn read(rt: &impl Env) -> Option<Options> {
     let n = count(rt);
-    let mut lines = false;
-    let mut report: usize = 0;
+    let mut o = Options {
+        lines: false,
+        report: None,
+    };
     let mut i: usize = 1;
+    // A while: an option takes one argument or two, which no range says.
     while i < n {
-        match word(rt, i) {
+        match option_at(rt, i)? {
             Asked::Lines => {
-                lines = true;
+                o.lines = true;
                 i += 1;
-                continue;
             }
             Asked::Report => {
                 if n - i < 2 {
-                    return Options {
-                        known: false,
-                        lines,
-                        report,
-                    };
+                    return None;
                 }
-                report = i + 1;
+                o.report = Some(i + 1);
                 i += 2;
-                continue;
-            }
-            Asked::Other => {
-                return Options {
-                    known: false,
-                    lines,
-                    report,
-                };
             }
         }
     }
-    Options {
-        known: true,
-        lines,
-        report,
-    }
+    Some(o)
 }

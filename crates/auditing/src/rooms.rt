@@ -1,50 +1,28 @@
-// The program's buffers. The limits that they set stand in docs/FORMATS.md, "The image file".
+// The program's buffers, and their sizes. The limits that they set stand in docs/FORMATS.md, "The image file".
 ghost use Rattle.std.specs.Prelude.{◌≡◌, length};
 
-// 64 sections and 4,096 entries in each further table: 65,926 words.
-pub(crate) fn image() -> [u32; 66000]
-    ensures { 66000 ≡ length result }
+// N of one number. A function of its own: a caller that writes so large an array itself takes the check minutes.
+pub(crate) fn filled<T: Copy, const N: usize>(x: T) -> [T; N]
+    ensures { N ≡ length result }
 {
-    [0; 66000]
+    [x; N]
 }
 
-pub(crate) fn starts() -> [u64; 16384]
-    ensures { 16384 ≡ length result }
-{
-    [0; 16384]
-}
+// The words of 64 sections and 4,096 entries in each further table, of which there are 65,926.
+pub(crate) const IMAGE: usize = 66000;
 
-// A bit for each of 262,144 Code words.
-pub(crate) fn map() -> [u32; 8192]
-    ensures { 8192 ≡ length result }
-{
-    [0; 8192]
-}
+pub(crate) const STARTS: usize = 16384;
 
-// 512 waiting states.
-pub(crate) fn small_stack() -> [u32; 169474]
-    ensures { 169474 ≡ length result }
-{
-    [0; 169474]
-}
+// The words of a map with a bit for each of 262,144 Code words.
+pub(crate) const MAP: usize = 8192;
 
-// 4,096 waiting states, each of 331 words, and two.
-pub(crate) fn stack() -> [u32; 1355778]
-    ensures { 1355778 ≡ length result }
-{
-    [0; 1355778]
-}
+// The words of a stack of 512 waiting states, and of one of 4,096: two, and 331 for each state.
+pub(crate) const SMALL_STACK: usize = 169474;
 
-// A report has at most a byte for each Code word, and eight for each section, and ten.
-pub(crate) fn report() -> [u8; 262666]
-    ensures { 262666 ≡ length result }
-{
-    [0; 262666]
-}
+pub(crate) const STACK: usize = 1355778;
 
-// The name of the report's file.
-pub(crate) fn path() -> [u8; 4096]
-    ensures { 4096 ≡ length result }
-{
-    [0; 4096]
-}
+// The bytes of a report: at most one for each Code word, eight for each section, and ten.
+pub(crate) const REPORT: usize = 262666;
+
+// The bytes of the name of the report's file.
+pub(crate) const PATH: usize = 4096;

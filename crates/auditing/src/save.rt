@@ -3,7 +3,6 @@ ghost use Rattle.std.specs.Prelude.{◌≤◌};
 
 use crate::options::argument;
 use crate::rooms;
-use report::Wrote;
 use std::fs::File;
 use std::io;
 use std::io::Write;
@@ -17,21 +16,18 @@ pub(crate) fn report<R: Eprint + Env + Files>(
     map: &[u32],
     arg: usize,
 ) -> bool {
-    let mut bytes = rooms::report();
+    let mut bytes: [u8; rooms::REPORT] = rooms::filled(0);
     match report::write_report(im, data, map, &mut bytes) {
-        Wrote::Bytes(n) => save(rt, &bytes, n, arg),
-        Wrote::BrokenImage => false,
-        Wrote::SmallMap => false,
-        Wrote::NoRoom => false,
+        Ok(n) if n <= bytes.len() => save(rt, &bytes[..n], arg),
+        _ => false,
     }
 }
 
-// The first n bytes.
-fn save<R: Eprint + Env + Files>(rt: &R, bytes: &[u8], n: usize, arg: usize) -> bool {
-    let mut path = rooms::path();
+fn save<R: Eprint + Env + Files>(rt: &R, bytes: &[u8], arg: usize) -> bool {
+    let mut path: [u8; rooms::PATH] = rooms::filled(0);
     let k = argument(rt, arg, &mut path);
     match std::str::from_utf8(&path[..k]) {
-        Ok(name) => save_as(rt, bytes, n, name),
+        Ok(name) => save_as(rt, bytes, name),
         Err(_) => {
             let _ = rt.eprintln("the report's name is not UTF-8");
             false
@@ -39,9 +35,9 @@ fn save<R: Eprint + Env + Files>(rt: &R, bytes: &[u8], n: usize, arg: usize) -> 
     }
 }
 
-fn save_as<R: Eprint + Files>(rt: &R, bytes: &[u8], n: usize, name: &str) -> bool {
+fn save_as<R: Eprint + Files>(rt: &R, bytes: &[u8], name: &str) -> bool {
     match File::create(rt, name) {
-        Ok(file) => written::<R>(file, bytes, n),
+        Ok(file) => written::<R>(file, bytes),
         Err(e) => {
             fail(rt, name, &e);
             false
@@ -49,12 +45,9 @@ fn save_as<R: Eprint + Files>(rt: &R, bytes: &[u8], n: usize, name: &str) -> boo
     }
 }
 
-fn written<R: Files>(file: R::File, bytes: &[u8], n: usize) -> bool {
+fn written<R: Files>(file: R::File, bytes: &[u8]) -> bool {
     let mut file = file;
-    if n <= bytes.len() {
-        return file.write_all(&bytes[..n]).is_ok();
-    }
-    false
+    file.write_all(bytes).is_ok()
 }
 
 // As many bytes as the system's words for an error take, at most.

@@ -1,10 +1,9 @@
 -- The cases of document 01, section "Cases", line by line with its numbers. A case that says "then" goes on from the ones before it.
 -- Assumes nothing.
-use Rattle.std.specs.Prelude.{ℕ, List, [], ◌∷◌}
+use Rattle.std.specs.Prelude.{ℕ, List, [], ◌∷◌, Some}
 use Rattle.places.specs.declared.RelocationTarget.TheVariants as target
 use Rattle.vm.specs.declared.GprValue.TheVariants.{Constant, Range, LoadIndexed}
 use Rattle.vm.specs.declared.BranchTarget.TheVariants.{JumpTable}
-use Rattle.vm.specs.declared.TableSize.TheVariants.{Bytes}
 use Rattle.cases.specs.Asks.{nothing, known, Ask, value, jump, fork, taken, mask, report, Gives, holds, jumps, forks, word, bytes, there, to}
 
 -- C and its number, what is asked, what it must give
@@ -26,10 +25,10 @@ table =
     ∷ case 3 (value nothing 0x800ED408 (0x550066FA ∷ []) 0) (holds (Range 0 28 4096))
     -- then 7D86002E, with 80520E18 in a section: max offset 28
     ∷ case 4 (value nothing 0x800ED400 (0x3CC08052 ∷ 0x38C60E18 ∷ 0x550066FA ∷ 0x7D86002E ∷ []) 12)
-    (holds (LoadIndexed (target.Address (there 0x80520E18)) (Bytes 28)))
+    (holds (LoadIndexed (target.Address (there 0x80520E18)) (Some 28)))
     -- 7D8903A6, 4E800420: size 32
     ∷ case 5 (jump nothing 0x800ED400 (0x3CC08052 ∷ 0x38C60E18 ∷ 0x550066FA ∷ 0x7D86002E ∷ 0x7D8903A6 ∷ 0x4E800420 ∷ []))
-    (jumps (JumpTable (target.Address (there 0x80520E18)) (Bytes 32)))
+    (jumps (JumpTable (target.Address (there 0x80520E18)) (Some 32)))
     -- 54600E7A: Range 0..124 step 2
     ∷ case 6 (value nothing 0x800ED400 (0x54600E7A ∷ []) 0) (holds (Range 0 124 2))
     -- 28000127, then 418160BC at 800ED45C with 800F3518 in code: targets 800ED460 with 0..295, 800F3518 with 296..FFFFFFFF

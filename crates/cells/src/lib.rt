@@ -49,12 +49,12 @@ pub fn set_compare(cells: &mut [u32], k: usize, c: Cr)
     record::put_compare(cells, 256 + k * 8, c);
 }
 
+// LR and CTR differ in a number alone: each function is one call of what they share, and its name says which.
 pub fn lr_in(cells: &[u32]) -> GprValue
     requires { state_size ≤ length cells.now }
     ensures { result ≡ (state_of cells.now).lr.value }
 {
-    let h = record::held_at(cells, 320);
-    h.value
+    record::held_at(cells, 320).value
 }
 
 pub fn set_lr(cells: &mut [u32], v: GprValue)
@@ -68,8 +68,7 @@ pub fn ctr_in(cells: &[u32]) -> GprValue
     requires { state_size ≤ length cells.now }
     ensures { result ≡ (state_of cells.now).ctr.value }
 {
-    let h = record::held_at(cells, 324);
-    h.value
+    record::held_at(cells, 324).value
 }
 
 pub fn set_ctr(cells: &mut [u32], v: GprValue)

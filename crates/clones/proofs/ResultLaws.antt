@@ -1,5 +1,6 @@
 -- Registers marked with a field, by their words; and those below some number with the value that they get.
 -- Assumes of a state what its type says (`Fits`).
+use Rattle.std.specs.Prelude.{Some, None}
 use mathlib.Core.Bool.{true, false, ◌&&◌}
 use mathlib.Core.List.{List, [], ◌∷◌}
 use mathlib.Core.Path.{◌≡◌, refl, sym, ap, ◌∙◌, subst}
@@ -26,7 +27,6 @@ use Rattle.vm.specs.Values.{on_mark}
 use Rattle.vm.specs.declared.Gpr.{Gpr}
 use Rattle.vm.specs.declared.GprValue.TheVariants.{Unknown, Constant, Address, ComparisonResult, Range, LoadIndexed}
 use Rattle.vm.specs.declared.GprValue.{GprValue}
-use Rattle.vm.specs.declared.TableSize.TheVariants.{Guessed, Bytes}
 use Rattle.vm.specs.declared.VM.{VM}
 use Rattle.words.specs.Choice.{pick}
 use Rattle.clones.proofs.CloneLaws.{register_over}
@@ -46,10 +46,10 @@ mark_tag (Address target.External) h l k = let e : (2 + 16 * h + 32 * l) % 16 �
 mark_tag (Address (target.Address p)) h l k = let e : (3 + 16 * h + 32 * l) % 16 ≡ 3 = omega arith in rw e
 mark_tag (ComparisonResult j) h l k = let e : (4 + 16 * h + 32 * l) % 16 ≡ 4 = omega arith in rw e
 mark_tag (Range lo hi st) h l k = let e : (5 + 16 * h + 32 * l) % 16 ≡ 5 = omega arith in rw e
-mark_tag (LoadIndexed target.External Guessed) h l k = let e : (6 + 16 * h + 32 * l) % 16 ≡ 6 = omega arith in rw e
-mark_tag (LoadIndexed (target.Address p) Guessed) h l k = let e : (7 + 16 * h + 32 * l) % 16 ≡ 7 = omega arith in rw e
-mark_tag (LoadIndexed target.External (Bytes n)) h l k = let e : (8 + 16 * h + 32 * l) % 16 ≡ 8 = omega arith in rw e
-mark_tag (LoadIndexed (target.Address p) (Bytes n)) h l k = let e : (9 + 16 * h + 32 * l) % 16 ≡ 9 = omega arith in rw e
+mark_tag (LoadIndexed target.External None) h l k = let e : (6 + 16 * h + 32 * l) % 16 ≡ 6 = omega arith in rw e
+mark_tag (LoadIndexed (target.Address p) None) h l k = let e : (7 + 16 * h + 32 * l) % 16 ≡ 7 = omega arith in rw e
+mark_tag (LoadIndexed target.External (Some n)) h l k = let e : (8 + 16 * h + 32 * l) % 16 ≡ 8 = omega arith in rw e
+mark_tag (LoadIndexed (target.Address p) (Some n)) h l k = let e : (9 + 16 * h + 32 * l) % 16 ≡ 9 = omega arith in rw e
 
 holds_itself : (l : List ℕ) → Holds l 0 l
 unfolding Holds

@@ -32,22 +32,14 @@ pub fn copy(to: &mut [u32], at: usize, from: &[u32], first: usize, n: usize)
     requires { (at + n ≤ length to.old) × (first + n ≤ length from.now) }
     ensures { to.new ≡ put to.old at (take n (drop first from.now)) }
 {
-    let mut i: usize = 0;
-    while i < n {
-        to[at + i] = from[first + i];
-        i = i + 1;
-    }
+    to[at..at + n].copy_from_slice(&from[first..first + n]);
 }
 
 fn clear(words: &mut [u32], at: usize, n: usize)
     requires { at + n ≤ length words.old }
     ensures { words.new ≡ put words.old at (replicate n 0) }
 {
-    let mut i: usize = 0;
-    while i < n {
-        words[at + i] = 0;
-        i = i + 1;
-    }
+    words[at..at + n].fill(0);
 }
 
 // Register i's value, without its places.
@@ -98,7 +90,7 @@ fn mark(words: &mut [u32], at: usize, cells: &[u32], k: usize, value: GprValue, 
 {
     let from = k * 8;
     if cells[from] % 16 == 4 {
-        if cells[from + 1] == crf as u32 {
+        if cells[from + 1] == u32::from(crf) {
             put_marked(words, at, cells, k, value);
         }
     }
@@ -110,10 +102,8 @@ fn put_result(words: &mut [u32], at: usize, cells: &[u32], value: GprValue, crf:
     ensures { (words.new ≡ put words.old at (state_words (with_result (state_of cells.now) value crf))) × Fits (with_result (state_of cells.now) value crf) }
 {
     copy(words, at, cells, 0, STATE_WORDS);
-    let mut i: usize = 0;
-    while i < 32 {
-        let k = i;
-        i = i + 4;
+    for i in 0..8 {
+        let k = i * 4;
         mark(words, at, cells, k, value, crf);
         mark(words, at, cells, k + 1, value, crf);
         mark(words, at, cells, k + 2, value, crf);

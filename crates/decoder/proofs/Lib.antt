@@ -1,6 +1,5 @@
 -- What the proofs here rest on, and the laws that the layers above cite.
 pub mod Names
-pub mod Arms
 pub mod Told
 pub mod Columns
 pub mod Sets

@@ -1,7 +1,6 @@
--- An operation's number is its place among the names, and the tag that a `match` goes by.
+-- An operation's number is its place among the names.
 -- Assumes nothing.
 use mathlib.Core.Path.{◌≡◌, refl}
-use denote.Enum.Declared.{tag_of}
 use Prim.Native.Nat.{◌<◌}
 use lib.Dec.{lit<}
 use lib.ListN.{get_or}
@@ -10,7 +9,6 @@ use Rattle.decoder.specs.declared.Op.{Op}
 use Rattle.decoder.specs.declared.Op.TheVariants.{Illegal, Other, Subfic, Cmpli, Cmpi, Addic, AddicDot, Addi, Addis, Bc, B, Rlwinm, Rlwnm, Ori, Lwz, Lwzu, Lbz, Lbzu, Stw, Stwu, Stb, Stbu, Lhz, Lhzu, Lha, Lhau, Sth, Sthu, Lmw, Stmw, Lfs, Lfsu, Lfd, Lfdu, Stfs, Stfsu, Stfd, Stfdu, Bclr, Rfi, Bcctr, Cmp, Cmpl, Lwzx, Mfspr, Mtspr, Or, Add, Subf, Subfc}
 use Rattle.decoder.specs.declared.Writes.{Writes}
 use Rattle.decoder.specs.declared.Writes.TheVariants.{Nothing, Rd, Ra, RdRa}
-use Rattle.decoder.specs.contracts.Op.{the_type}
 
 pub named : (o : Op) → get_or names (number_of o) Illegal ≡ o
 unfolding names
@@ -64,58 +62,6 @@ named Or = refl
 named Add = refl
 named Subf = refl
 named Subfc = refl
-
-pub tag_number : (o : Op) → tag_of the_type o ≡ number_of o
-tag_number Illegal = refl
-tag_number Other = refl
-tag_number Subfic = refl
-tag_number Cmpli = refl
-tag_number Cmpi = refl
-tag_number Addic = refl
-tag_number AddicDot = refl
-tag_number Addi = refl
-tag_number Addis = refl
-tag_number Bc = refl
-tag_number B = refl
-tag_number Rlwinm = refl
-tag_number Rlwnm = refl
-tag_number Ori = refl
-tag_number Lwz = refl
-tag_number Lwzu = refl
-tag_number Lbz = refl
-tag_number Lbzu = refl
-tag_number Stw = refl
-tag_number Stwu = refl
-tag_number Stb = refl
-tag_number Stbu = refl
-tag_number Lhz = refl
-tag_number Lhzu = refl
-tag_number Lha = refl
-tag_number Lhau = refl
-tag_number Sth = refl
-tag_number Sthu = refl
-tag_number Lmw = refl
-tag_number Stmw = refl
-tag_number Lfs = refl
-tag_number Lfsu = refl
-tag_number Lfd = refl
-tag_number Lfdu = refl
-tag_number Stfs = refl
-tag_number Stfsu = refl
-tag_number Stfd = refl
-tag_number Stfdu = refl
-tag_number Bclr = refl
-tag_number Rfi = refl
-tag_number Bcctr = refl
-tag_number Cmp = refl
-tag_number Cmpl = refl
-tag_number Lwzx = refl
-tag_number Mfspr = refl
-tag_number Mtspr = refl
-tag_number Or = refl
-tag_number Add = refl
-tag_number Subf = refl
-tag_number Subfc = refl
 
 -- the operations fit the six low bits of an entry
 pub number_lt : (o : Op) → number_of o < 64

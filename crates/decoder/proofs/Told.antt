@@ -10,7 +10,7 @@ use lib.Dec.{T, eqb, ltb, eqb→eq}
 use lib.ListN.{get_or}
 use Rattle.words.specs.Choice.{pick}
 use Rattle.words.specs.Word.{field}
-use Rattle.words.proofs.Tests.{both}
+use Rattle.words.proofs.Tests.{both, both_left, both_right}
 use Rattle.decoder.specs.Ops.{number_of, names}
 use Rattle.decoder.specs.Table.{Row, rows, none, fits, first}
 use Rattle.decoder.specs.Decode.{has_extended, extended_in, row_of, decoded}
@@ -57,15 +57,7 @@ look test r rs p x true e t k =
     let ep : r.primary ≡ p = eqb→eq r.primary p (truth (and_left (eqb r.primary p) (eqb r.extended x) e)) in
     let ex : r.extended ≡ x = eqb→eq r.extended x (truth (and_right (eqb r.primary p) (eqb r.extended x) e)) in
     subst (λ (y : ℕ). T (test r p y)) ex (subst (λ (q : ℕ). T (test r q r.extended)) ep (both_left (test r r.primary r.extended) (each_row test rs) t))
-  where
-    both_left : (a b : Bool) → T (both a b) → T a
-    both_left true b t = tt
-    both_left false b t = t
 look test r rs p x false e t k = k (both_right (test r r.primary r.extended) (each_row test rs) t)
-  where
-    both_right : (a b : Bool) → T (both a b) → T b
-    both_right true b t = t
-    both_right false b t = absurd t
 
 pub found : (test : Row → ℕ → ℕ → Bool) (rs : List Row) (p x : ℕ) → T (each_row test rs) → T (test none p x) → T (test (first rs p x) p x)
 unfolding first

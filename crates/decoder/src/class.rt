@@ -9,59 +9,41 @@ use crate::Op;
 pub fn is_load_op(op: Op) -> bool
     ensures { result ≡ is_load op }
 {
-    match op {
-        Op::Lbz
-        | Op::Lbzu
-        | Op::Lha
-        | Op::Lhau
-        | Op::Lhz
-        | Op::Lhzu
-        | Op::Lmw
-        | Op::Lwz
-        | Op::Lwzu => true,
-        _ => false,
-    }
+    matches!(
+        op,
+        Op::Lbz | Op::Lbzu | Op::Lha | Op::Lhau | Op::Lhz | Op::Lhzu | Op::Lmw | Op::Lwz | Op::Lwzu
+    )
 }
 
 // Whether it loads a floating register.
 pub fn is_loadf_op(op: Op) -> bool
     ensures { result ≡ is_loadf op }
 {
-    match op {
-        Op::Lfd | Op::Lfdu | Op::Lfs | Op::Lfsu => true,
-        _ => false,
-    }
+    matches!(op, Op::Lfd | Op::Lfdu | Op::Lfs | Op::Lfsu)
 }
 
 // Whether it stores a general register.
 pub fn is_store_op(op: Op) -> bool
     ensures { result ≡ is_store op }
 {
-    match op {
-        Op::Stb | Op::Stbu | Op::Sth | Op::Sthu | Op::Stmw | Op::Stw | Op::Stwu => true,
-        _ => false,
-    }
+    matches!(
+        op,
+        Op::Stb | Op::Stbu | Op::Sth | Op::Sthu | Op::Stmw | Op::Stw | Op::Stwu
+    )
 }
 
 // Whether it stores a floating register.
 pub fn is_storef_op(op: Op) -> bool
     ensures { result ≡ is_storef op }
 {
-    match op {
-        Op::Stfd | Op::Stfdu | Op::Stfs | Op::Stfsu => true,
-        _ => false,
-    }
+    matches!(op, Op::Stfd | Op::Stfdu | Op::Stfs | Op::Stfsu)
 }
 
 // Whether it is any of these.
 pub fn is_load_store_op(op: Op) -> bool
     ensures { result ≡ is_load_store op }
 {
-    let l = is_load_op(op);
-    let lf = is_loadf_op(op);
-    let s = is_store_op(op);
-    let sf = is_storef_op(op);
-    l | lf | s | sf
+    is_load_op(op) || is_loadf_op(op) || is_store_op(op) || is_storef_op(op)
 }
 
 // Whether it is a load or store that also writes its address to rA. The Rust's list names the
@@ -69,18 +51,18 @@ pub fn is_load_store_op(op: Op) -> bool
 pub fn is_update_op(op: Op) -> bool
     ensures { result ≡ is_update op }
 {
-    match op {
+    matches!(
+        op,
         Op::Lbzu
-        | Op::Lfdu
-        | Op::Lfsu
-        | Op::Lhau
-        | Op::Lhzu
-        | Op::Lwzu
-        | Op::Stbu
-        | Op::Stfdu
-        | Op::Stfsu
-        | Op::Sthu
-        | Op::Stwu => true,
-        _ => false,
-    }
+            | Op::Lfdu
+            | Op::Lfsu
+            | Op::Lhau
+            | Op::Lhzu
+            | Op::Lwzu
+            | Op::Stbu
+            | Op::Stfdu
+            | Op::Stfsu
+            | Op::Sthu
+            | Op::Stwu
+    )
 }

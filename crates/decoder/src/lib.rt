@@ -88,16 +88,17 @@ pub fn decode(w: u32) -> Decoded
     ensures { result ≡ decoded w }
 {
     let e = table::entry_of(w);
-    let op = table::op_named(e % 64);
-    let writes = table::kind_named(e / 64);
-    Decoded { op, writes }
+    Decoded {
+        op: table::op_named(e % 64),
+        writes: table::kind_named(e / 64),
+    }
 }
 
 // The number of the word's operation in the order of `Op`, for programs that print or compare it.
 pub fn op_number(w: u32) -> u32
     ensures { result ≡ number_of (decoded w).op }
 {
-    (table::entry_of(w) % 64) as u32
+    u32::from(table::entry_of(w) % 64)
 }
 
 // The registers that a word of this kind writes, as a set: register r is in it where the bit of
@@ -119,9 +120,7 @@ pub fn written_by(kind: Writes, w: u32) -> u32
 pub fn written(w: u32) -> u32
     ensures { result ≡ written_set w }
 {
-    let d = decode(w);
-    let kind = d.writes;
-    written_by(kind, w)
+    written_by(decode(w).writes, w)
 }
 
 // A register of a set, and the set without it.
@@ -133,6 +132,7 @@ pub struct Taken {
 
 // The lowest register of a set, and the set without it; of the empty set register 32 and the
 // empty set. A loop that takes registers until none is left meets each register of the set once.
+// No Option: of the empty set too it answers, as it promised.
 pub fn take_lowest(set: u32) -> Taken
     ensures { result ≡ lowest_of set }
 {
@@ -142,7 +142,7 @@ pub fn take_lowest(set: u32) -> Taken
             rest: 0,
         };
     }
-    let r = u32::trailing_zeros(set);
+    let r = set.trailing_zeros();
     Taken {
         register: r as usize,
         rest: set - (1u32 << r),

@@ -1,34 +1,38 @@
 // A file of cases, record after record, and its current image; answers go out a line at a time.
 ghost use Rattle.std.specs.Prelude.{◌≡◌, ◌≤◌, length, IfOk, OnErr};
 
-use crate::{print, read};
-use image::Judged;
+use crate::case::{Case, Words};
+use crate::line::Line;
 use std::io;
 use std::io::Read;
-use streams::read_full;
+use streams::{read_full, room};
 
-// The next record's kind and length in words, where there is one.
+// More records than any file has: the loop over them has to end.
+const MOST_RECORDS: usize = 100000000;
+
+// A record's kind and its payload's length in words.
 #[derive(Clone, Copy)]
 pub struct Head {
-    pub there: bool,
     pub kind: u32,
     pub length: u32,
 }
 
-pub fn next_head<R: Read>(input: &mut R) -> io::Result<Head> {
+// The next record's head, where there is one.
+pub fn next_head<R: Read>(input: &mut R) -> io::Result<Option<Head>> {
     let mut eight = [0u8; 8];
-    let n = read_full(input, &mut eight)?;
-    Ok(Head {
-        there: n == 8,
+    if read_full(input, &mut eight)? < 8 {
+        return Ok(None);
+    }
+    Ok(Some(Head {
         kind: words::bytes::word_at(&eight, 0),
         length: words::bytes::word_at(&eight, 4),
-    })
+    }))
 }
 
 pub fn least(a: usize, b: usize) -> usize
     ensures { (result ≤ a) × (result ≤ b) }
 {
-    if a <= b { a } else { b }
+    a.min(b)
 }
 
 // Reads the payload's bytes and answers how many words were there.
@@ -50,116 +54,168 @@ pub fn next_payload<R: Read>(
 {
     let got = read_raw(input, raw, count)?;
     let n = least(got, payload.len());
-    to_words(raw, payload, n);
+    to_words(raw, &mut payload[..n]);
     Ok(n)
 }
 
-// The first n words of the bytes.
-fn to_words(raw: &[u8], payload: &mut [u32], n: usize)
-    requires { n ≤ length payload.old }
-{
-    let mut i = 0;
-    let mut at = 0;
-    while i < n {
-        payload[i] = words::bytes::word_at(raw, at);
-        at = read::plus(at, 4);
-        i += 1;
+// The first words of the bytes, as many as there is room for.
+fn to_words(raw: &[u8], payload: &mut [u32]) {
+    let (fours, _) = raw.as_chunks::<4>();
+    for (w, four) in payload.iter_mut().zip(fours) {
+        *w = u32::from_be_bytes(*four);
     }
 }
 
 // How many words and bytes of its buffers the current image has.
 #[derive(Clone, Copy)]
-pub struct Current {
-    pub words: usize,
-    pub bytes: usize,
+struct Current {
+    words: usize,
+    bytes: usize,
 }
 
 // The image of a record of kind 1 becomes the current one.
-fn load_image(p: &[u32], im: &mut [u32], data: &mut [u8]) -> Current
+fn load_image(payload: &[u32], im: &mut [u32], data: &mut [u8]) -> Current
     ensures { (result.words ≤ length im.new) × (result.bytes ≤ length «data».new) }
 {
-    let words = least(read::word(p, 0) as usize, im.len());
-    read::copy_words(p, 1, im, words);
-    let at = words + 1;
-    let bytes = least(read::word(p, at) as usize, data.len());
-    read::copy_bytes(p, read::plus(at, 1), data, bytes);
+    let mut p = Words::new(payload);
+    let words = least(p.word() as usize, im.len());
+    p.fill_words(&mut im[..words]);
+    let bytes = least(p.word() as usize, data.len());
+    p.fill_bytes(&mut data[..bytes]);
     Current { words, bytes }
 }
 
-// The current image once a record of n words is read: its own, where it is one of kind 1.
-pub fn advance(
-    kind: u32,
-    payload: &[u32],
-    n: usize,
-    im: &mut [u32],
-    data: &mut [u8],
-    before: Current,
-) -> Current {
-    if n <= payload.len() {
-        if kind == 1 {
-            return load_image(&payload[..n], im, data);
+// Room for a record's bytes and its answer's text, for its payload, for the current image and its data, and for an
+// answer's words.
+#[derive(Drop)]
+struct Buffers<'a> {
+    raw: &'a mut [u8],
+    payload: &'a mut [u32],
+    image: &'a mut [u32],
+    data: &'a mut [u8],
+    line: &'a mut [u32],
+}
+
+// The first n, or as many as there are.
+fn first<T>(s: &[T], n: usize) -> &[T] {
+    &s[..least(n, s.len())]
+}
+
+// Answers each record in turn.
+fn run<R: Read, F: Fn(Case, &mut Line)>(
+    rt: &impl Print,
+    input: &mut R,
+    buffers: Buffers,
+    answer: F,
+) -> io::Result<()>
+    requires { F.IsAlwaysCallable answer }
+{
+    let Buffers {
+        raw,
+        payload,
+        image,
+        data,
+        line,
+    } = buffers;
+    let mut now = Current { words: 0, bytes: 0 };
+    for _ in 0..MOST_RECORDS {
+        let Some(head) = next_head(input)? else {
+            return Ok(());
+        };
+        let n = next_payload(input, raw, payload, head.length)?;
+        if head.kind == 1 {
+            now = load_image(first(payload, n), image, data);
         }
+        let case = Case {
+            kind: head.kind,
+            words: Words::new(first(payload, n)),
+            image: first(image, now.words),
+            data: first(data, now.bytes),
+        };
+        let end = answer_one(case, line, &answer);
+        flush(rt, first(line, end), raw)?;
     }
-    before
+    Ok(())
+}
+
+// An answer into a line: where it ends.
+fn answer_one<F: Fn(Case, &mut Line)>(case: Case, words: &mut [u32], answer: &F) -> usize
+    requires { F.IsAlwaysCallable answer.now }
+{
+    let mut line = Line::new(words);
+    answer(case, &mut line);
+    line.end
+}
+
+// Answers each record of the input, a line for each, in buffers by the bounds that docs/FORMATS.md gives for every file.
+pub fn answer_all<R: Read, F: Fn(Case, &mut Line)>(
+    rt: &impl Print,
+    input: &mut R,
+    answer: F,
+) -> io::Result<()>
+    requires { F.IsAlwaysCallable answer }
+{
+    let mut raw: [u8; 1320000] = room(0);
+    let mut payload: [u32; 330000] = room(0);
+    let mut image: [u32; 66000] = room(0);
+    let mut data: [u8; 1048640] = room(0);
+    let mut line: [u32; 140000] = room(0);
+    let buffers = Buffers {
+        raw: &mut raw,
+        payload: &mut payload,
+        image: &mut image,
+        data: &mut data,
+        line: &mut line,
+    };
+    run(rt, input, buffers, answer)
 }
 
 // The answer of kind 1.
-pub fn judged(im: &[u32], data: &[u8], line: &mut [u32]) -> usize {
-    match image::check_image(im, data) {
-        Judged::Sound => print::word(line, 0, 0),
-        Judged::Broken => print::word(line, 0, 1),
+pub fn judged(case: Case, line: &mut Line) {
+    match image::check_image(case.image, case.data) {
+        Ok(()) => line.word(0),
+        Err(_) => line.word(1),
     }
 }
 
-fn store(text: &mut [u8], at: usize, b: u8) {
-    if at < text.len() {
-        text[at] = b;
-    }
-}
-
+// By hand: there is no heap to format into, and the library has no writer into a lent slice.
 fn digit(n: u32) -> u8 {
     let d = (n % 16) as u8;
-    if d < 10 { d + 48 } else { d + 87 }
+    if d < 10 { b'0' + d } else { b'a' + (d - 10) }
 }
 
-// Four digits of a number below 2^16.
-fn half(text: &mut [u8], at: usize, h: u32) {
-    store(text, at, digit(h >> 12));
-    store(text, read::plus(at, 1), digit(h >> 8));
-    store(text, read::plus(at, 2), digit(h >> 4));
-    store(text, read::plus(at, 3), digit(h));
+// A word's eight digits and a space.
+fn digits(w: u32) -> [u8; 9] {
+    [
+        digit(w >> 28),
+        digit(w >> 24),
+        digit(w >> 20),
+        digit(w >> 16),
+        digit(w >> 12),
+        digit(w >> 8),
+        digit(w >> 4),
+        digit(w),
+        b' ',
+    ]
 }
 
-fn after(more: bool) -> u8 {
-    if more { b' ' } else { b'\n' }
-}
-
-// Eight digits of a word and what stands after them.
-fn digits(text: &mut [u8], at: usize, w: u32, after: u8) {
-    half(text, at, w >> 16);
-    half(text, read::plus(at, 4), w);
-    store(text, read::plus(at, 8), after);
-}
-
-// The first n words as text, a space between two of them: where the text ends.
-fn to_text(line: &[u32], n: usize, text: &mut [u8]) -> usize
-    requires { n ≤ length line.now }
+// Words as text, a space between two of them and a newline after the last, as many as there is room for: where it ends.
+fn to_text(words: &[u32], text: &mut [u8]) -> usize
+    ensures { result ≤ length text.new }
 {
-    let mut at: usize = 0;
-    let mut i = 0;
-    while i < n {
-        let w = line[i];
-        i += 1;
-        digits(text, at, w, after(i < n));
-        at = read::plus(at, 9);
+    let end = least(words.len(), text.len() / 9) * 9;
+    let (nines, _) = text.as_chunks_mut::<9>();
+    for (nine, w) in nines.iter_mut().zip(words) {
+        *nine = digits(*w);
     }
-    at
+    if 0 < end {
+        text[end - 1] = b'\n';
+    }
+    end
 }
 
-// An answer of n words goes out as one line.
-pub fn flush(rt: &impl Print, line: &[u32], n: usize, text: &mut [u8]) -> io::Result<()> {
-    let words = least(n, line.len());
-    let end = to_text(line, words, text);
-    let bytes = least(end, text.len());
-    rt.write_all(&text[..bytes])
+// An answer goes out as one line.
+pub fn flush(rt: &impl Print, words: &[u32], text: &mut [u8]) -> io::Result<()> {
+    let end = to_text(words, text);
+    rt.write_all(&text[..end])
 }

@@ -3,10 +3,9 @@
 // but safety and ends.
 #![tactic(auto)]
 
+pub mod case;
 pub mod file;
-pub mod print;
-pub mod read;
+pub mod line;
 pub mod results;
-pub mod rooms;
 pub mod stacks;
 pub mod states;

@@ -1,8 +1,8 @@
 // What a step found, as kind 7 answers it.
-use crate::{print, states};
-use places::RelocationTarget;
+use crate::line::Line;
+use crate::states::state;
 use step::{Branch, Refusal, StepResult, Stepped};
-use vm::{BranchTarget, Gpr, VM};
+use vm::VM;
 
 fn refusal(why: Refusal) -> u32 {
     match why {
@@ -13,94 +13,58 @@ fn refusal(why: Refusal) -> u32 {
 }
 
 // A step's answer: why it was refused, or 0 and what was found.
-pub fn stepped(line: &mut [u32], at: usize, r: Stepped, before: VM) -> usize {
-    let result = r.result;
-    match result {
+pub fn stepped(line: &mut Line, r: Stepped, before: VM) {
+    match r.result {
         StepResult::Refused(why) => {
-            let at = print::word(line, at, refusal(why));
-            states::state(line, at, before)
+            line.word(refusal(why));
+            state(line, before);
         }
         _ => {
-            let at = print::word(line, at, 0);
-            found(line, at, r, before)
+            line.word(0);
+            found(line, r, before);
         }
     }
 }
 
 // The outcome and what follows it; of Illegal, Jump and Branch the state after is the one before.
-pub fn found(line: &mut [u32], at: usize, r: Stepped, before: VM) -> usize {
-    let result = r.result;
-    match result {
-        StepResult::Refused(_) => at,
-        StepResult::Continue => continued(line, at, r),
+pub fn found(line: &mut Line, r: Stepped, before: VM) {
+    match r.result {
+        StepResult::Refused(_) => (),
+        StepResult::Continue => {
+            line.word(0);
+            state(line, r.vm);
+        }
         StepResult::LoadStore {
             address,
             source,
             source_reg,
-        } => accessed(line, at, address, source, source_reg, r),
-        StepResult::Illegal => illegal(line, at, before),
-        StepResult::Jump(t) => jump(line, at, t, before),
-        StepResult::Branch { first, second } => branches(line, at, first, second, r, before),
+        } => {
+            line.word(1);
+            line.target(address);
+            line.register(source);
+            line.word(u32::from(source_reg));
+            state(line, r.vm);
+        }
+        StepResult::Illegal => {
+            line.word(2);
+            state(line, before);
+        }
+        StepResult::Jump(t) => {
+            line.word(3);
+            line.branch_target(t);
+            state(line, before);
+        }
+        StepResult::Branch { first, second } => {
+            line.word(4);
+            branch(line, first, r.vm);
+            branch(line, second, r.other);
+            state(line, before);
+        }
     }
 }
 
-fn continued(line: &mut [u32], at: usize, r: Stepped) -> usize {
-    let after = r.vm;
-    let at = print::word(line, at, 0);
-    states::state(line, at, after)
-}
-
-fn accessed(
-    line: &mut [u32],
-    at: usize,
-    address: RelocationTarget,
-    source: Gpr,
-    source_reg: u8,
-    r: Stepped,
-) -> usize {
-    let after = r.vm;
-    let at = reached(line, at, address, source);
-    let at = print::word(line, at, source_reg as u32);
-    states::state(line, at, after)
-}
-
-fn reached(line: &mut [u32], at: usize, address: RelocationTarget, source: Gpr) -> usize {
-    let at = print::word(line, at, 1);
-    let at = print::target(line, at, address);
-    print::register(line, at, source)
-}
-
-fn illegal(line: &mut [u32], at: usize, before: VM) -> usize {
-    let at = print::word(line, at, 2);
-    states::state(line, at, before)
-}
-
-fn jump(line: &mut [u32], at: usize, t: BranchTarget, before: VM) -> usize {
-    let at = print::word(line, at, 3);
-    let at = print::branch_target(line, at, t);
-    states::state(line, at, before)
-}
-
-fn branches(
-    line: &mut [u32],
-    at: usize,
-    first: Branch,
-    second: Branch,
-    r: Stepped,
-    before: VM,
-) -> usize {
-    let vm = r.vm;
-    let other = r.other;
-    let at = print::word(line, at, 4);
-    let at = branch(line, at, first, vm);
-    let at = branch(line, at, second, other);
-    states::state(line, at, before)
-}
-
-fn branch(line: &mut [u32], at: usize, b: Branch, s: VM) -> usize {
-    let target = b.target;
-    let link = b.link;
-    let at = print::branch_target(line, at, target);
-    let at = print::flag(line, at, link);
-    states::state(line, at, s)
+fn branch(line: &mut Line, b: Branch, s: VM) {
+    line.branch_target(b.target);
+    line.flag(b.link);
+    state(line, s);
 }

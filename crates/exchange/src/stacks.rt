@@ -2,7 +2,8 @@
 ghost use Rattle.std.specs.Prelude.{◌<◌};
 ghost use Rattle.stack.specs.Stack.{Stack};
 
-use crate::{print, states};
+use crate::line::Line;
+use crate::states;
 
 // How many words so many slots take.
 pub fn words_of(slots: u32) -> usize {
@@ -10,28 +11,24 @@ pub fn words_of(slots: u32) -> usize {
 }
 
 // How many states, then each as a place and a state.
-pub fn held(stack: &[u32], count: usize, line: &mut [u32], at: usize) -> usize {
+pub fn held(stack: &[u32], count: usize, line: &mut Line) {
     if stack::judge::is_stack(stack, count) {
-        return all(stack, count, line, at);
+        all(stack, count, line);
     }
-    at
 }
 
-fn all(stack: &[u32], count: usize, line: &mut [u32], at: usize) -> usize
+fn all(stack: &[u32], count: usize, line: &mut Line)
     requires { Stack stack.now count }
 {
-    let mut at = print::word(line, at, (count % 0x1_0000_0000) as u32);
-    let mut i: usize = 0;
-    while i < count {
-        i += 1;
-        at = one(stack, i, line, at);
+    line.count(count);
+    for i in 0..count {
+        one(stack, i + 1, line);
     }
-    at
 }
 
-fn one(stack: &[u32], n: usize, line: &mut [u32], at: usize) -> usize
+fn one(stack: &[u32], n: usize, line: &mut Line)
     requires { (Stack stack.now n) × (0 < n) }
 {
-    let at = print::place(line, at, stack::top_place(stack, n));
-    states::state(line, at, stack::top_state(stack, n))
+    line.place(stack::top_place(stack, n));
+    states::state(line, stack::top_state(stack, n));
 }

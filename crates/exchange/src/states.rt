@@ -1,118 +1,57 @@
 // A state in an answer: the items that differ from the default, their count in front.
-use crate::print;
-use crate::read::plus;
-use places::MaybeAddress;
+use crate::line::Line;
+use places::SectionAddress;
 use vm::{Cr, Gpr, GprValue, Held, VM};
 
 fn is_unknown(v: GprValue) -> bool {
-    match v {
-        GprValue::Unknown => true,
-        _ => false,
-    }
+    matches!(v, GprValue::Unknown)
 }
 
-fn is_nowhere(m: MaybeAddress) -> bool {
-    match m {
-        MaybeAddress::Nowhere => true,
-        MaybeAddress::At(_) => false,
-    }
+fn is_nowhere(m: Option<SectionAddress>) -> bool {
+    matches!(m, None)
 }
 
 fn is_blank(g: Gpr) -> bool {
-    let v = g.value;
-    let hi = g.hi_addr;
-    let lo = g.lo_addr;
-    let unknown = is_unknown(v);
-    let no_hi = is_nowhere(hi);
-    let no_lo = is_nowhere(lo);
-    unknown & no_hi & no_lo
+    is_unknown(g.value) && is_nowhere(g.hi_addr) && is_nowhere(g.lo_addr)
 }
 
 fn is_unset(c: Cr) -> bool {
-    let left = c.left;
-    let right = c.right;
-    let no_left = is_unknown(left);
-    let no_right = is_unknown(right);
-    no_left & no_right & !c.signed
-}
-
-// Where the next item stands, and how many there are before it.
-#[derive(Clone, Copy)]
-struct Items {
-    at: usize,
-    count: u32,
-}
-
-// One item more, which ends at a word.
-fn one_more(t: Items, at: usize) -> Items {
-    Items {
-        at,
-        count: words::sum::wrapping_add(t.count, 1),
-    }
-}
-
-fn register_item(line: &mut [u32], t: Items, item: u32, g: Gpr) -> Items {
-    if is_blank(g) {
-        return t;
-    }
-    let at = print::word(line, t.at, item);
-    one_more(t, print::register(line, at, g))
-}
-
-fn registers(line: &mut [u32], t: Items, s: VM) -> Items {
-    let mut t = t;
-    let mut i: usize = 0;
-    while i < 32 {
-        t = register_item(line, t, i as u32, s.gpr[i]);
-        i += 1;
-    }
-    t
-}
-
-fn compare_item(line: &mut [u32], t: Items, item: u32, c: Cr) -> Items {
-    if is_unset(c) {
-        return t;
-    }
-    let at = print::word(line, t.at, item);
-    one_more(t, print::compare(line, at, c))
-}
-
-fn compares(line: &mut [u32], t: Items, s: VM) -> Items {
-    let mut t = t;
-    let mut k: usize = 0;
-    while k < 8 {
-        t = compare_item(line, t, k as u32 + 32, s.cr[k]);
-        k += 1;
-    }
-    t
-}
-
-fn held_item(line: &mut [u32], t: Items, item: u32, h: Held) -> Items {
-    let v = h.value;
-    if is_unknown(v) {
-        return t;
-    }
-    let at = print::word(line, t.at, item);
-    one_more(t, print::value(line, at, v))
-}
-
-// The items of a state that differ from the default.
-fn all_items(line: &mut [u32], t: Items, s: VM) -> Items {
-    let lr = s.lr;
-    let ctr = s.ctr;
-    let t = registers(line, t, s);
-    let t = compares(line, t, s);
-    let t = held_item(line, t, 40, lr);
-    held_item(line, t, 41, ctr)
+    is_unknown(c.left) && is_unknown(c.right) && !c.signed
 }
 
 // A state: how many items it has, and the items.
-pub fn state(line: &mut [u32], at: usize, s: VM) -> usize {
-    let first = Items {
-        at: plus(at, 1),
-        count: 0,
-    };
-    let t = all_items(line, first, s);
-    print::word(line, at, t.count);
-    t.at
+pub fn state(line: &mut Line, s: VM) {
+    line.count(items(&s));
+    for (item, g) in (0..32).zip(&s.gpr) {
+        if !is_blank(*g) {
+            line.word(item);
+            line.register(*g);
+        }
+    }
+    for (item, c) in (32..40).zip(&s.cr) {
+        if !is_unset(*c) {
+            line.word(item);
+            line.compare(*c);
+        }
+    }
+    held(line, 40, s.lr);
+    held(line, 41, s.ctr);
+}
+
+// How many items differ from the default.
+fn items(s: &VM) -> usize {
+    let registers = s.gpr.iter().filter(|g| !is_blank(**g)).count();
+    let compares = s.cr.iter().filter(|c| !is_unset(**c)).count();
+    let held = [s.lr, s.ctr]
+        .iter()
+        .filter(|h| !is_unknown(h.value))
+        .count();
+    registers + compares + held
+}
+
+fn held(line: &mut Line, item: u32, h: Held) {
+    if !is_unknown(h.value) {
+        line.word(item);
+        line.value(h.value);
+    }
 }

@@ -2,6 +2,7 @@
 -- Assumes nothing.
 use Prim.Native.Nat.{ℕ, suc, ◌%◌}
 use mathlib.Core.Path.{◌≡◌, refl, sym, ◌∙◌}
+use Rattle.std.specs.Prelude.{Ok}
 use mathlib.Core.Bool.{Bool, true, false, not}
 use mathlib.Core.List.{List, [], ◌∷◌}
 use native.Mathlib.Omega.{arith}
@@ -13,10 +14,9 @@ use Rattle.lookups.specs.Code.{in_code}
 use Rattle.visited.specs.Bits.{has_room}
 use Rattle.executor.specs.declared.Phase.{Phase}
 use Rattle.executor.specs.declared.Phase.TheVariants as phase
-use Rattle.executor.specs.declared.Verdict.TheVariants as verdict
 use Rattle.executor.specs.declared.Execution.{Execution}
 use Rattle.executor.specs.declared.ExecCbResult.{ExecCbResult}
-use Rattle.executor.specs.Standing.{number_of, outcome_number, first_failing}
+use Rattle.executor.specs.Standing.{number_of, first_failing}
 use Rattle.executor.specs.Judge.{lawful, verdict_of, is_word}
 use Rattle.executor.specs.Next.{next_call}
 use Rattle.executor.specs.Reply.{reply_call, followed}
@@ -25,7 +25,7 @@ use Rattle.executor.proofs.Refusals.{waits, jump_tests, next_number, reply_numbe
 
 -- image, stack, running place and map are fine
 pub record Fit (im bs words : List ℕ) (n : ℕ) (v : List ℕ) (run : Execution) : Type 0 where
-  pub fine : verdict_of im (length bs) words n run.phase run.at ≡ verdict.Lawful
+  pub fine : verdict_of im (length bs) words n run.phase run.at ≡ Ok tt
   pub room : has_room v (code_words im) ≡ true
 
 pub fit_judged : {im bs words : List ℕ} {n : ℕ} {v : List ℕ} {run : Execution} → Fit im bs words n v run → Judged im (length bs) words n run.phase run.at
@@ -39,8 +39,8 @@ passed k false ts e = absurd (let z : ⊥ = omega arith in z)
 
 -- by the phase
 pub waiting : (ph : Phase) → waits ph ≡ true → ph ≡ phase.Waiting
-waiting phase.Idle e = let z : ◌≡◌ {A = ℕ} 0 1 = cc in absurd (omega arith)
-waiting phase.Running e = let z : ◌≡◌ {A = ℕ} 0 1 = cc in absurd (omega arith)
+waiting phase.Idle e = absurd (cc)
+waiting phase.Running e = absurd (cc)
 waiting phase.Waiting e = refl
 
 module _ (im bs words : List ℕ) (n : ℕ) (v : List ℕ) (run : Execution) where
@@ -48,7 +48,7 @@ module _ (im bs words : List ℕ) (n : ℕ) (v : List ℕ) (run : Execution) whe
   fit_by s l r = record { fine = rw (s, l); room = r }
 
   -- a next that is not refused
-  pub accepted_next : outcome_number (next_call im bs words n v run).outcome ≡ 0 → Fit im bs words n v run × (not (waits run.phase) ≡ true)
+  pub accepted_next : number_of (next_call im bs words n v run).outcome ≡ 0 → Fit im bs words n v run × (not (waits run.phase) ≡ true)
   accepted_next e =
       let one = passed 0 (sound im (length bs)) _ (sym (next_number im bs words n v run) ∙ e) in
       let twelve = passed 11 (lawful im words n run.phase run.at) _ one.1 in
@@ -56,7 +56,7 @@ module _ (im bs words : List ℕ) (n : ℕ) (v : List ℕ) (run : Execution) whe
       (fit_by one.0 twelve.0 four.0, (passed 10 (not (waits run.phase)) _ four.1).0)
 
   -- a reply that is not refused
-  pub accepted_reply : (h : ExecCbResult) → number_of (reply_call im (length bs) words n v run h).answer ≡ 0
+  pub accepted_reply : (h : ExecCbResult) → number_of (reply_call im (length bs) words n v run h) ≡ 0
       → Fit im bs words n v run × (waits run.phase ≡ true) × (first_failing (jump_tests im run h) ≡ 0)
   accepted_reply h e =
       let one = passed 0 (sound im (length bs)) _ (sym (reply_number im v run (length bs) words n h) ∙ e) in

@@ -2,6 +2,7 @@
 -- Assumes nothing: calls that are refused are no calls here, and change nothing.
 use Prim.Native.Nat.{ℕ, ◌+◌, ◌*◌, ◌≤◌, ◌<◌}
 use mathlib.Core.Path.{◌≡◌, refl, sym, ap, ◌∙◌, subst}
+use Rattle.std.specs.Prelude.{Result, Ok}
 use mathlib.Core.Bool.{Bool, true, false, not, ◌&&◌}
 use mathlib.Core.List.{List, []}
 use mathlib.Core.Logic.{◌⊎◌, inl, inr}
@@ -16,17 +17,16 @@ use Rattle.places.specs.declared.SectionAddress.{SectionAddress}
 use Rattle.image.specs.Rules.{code_words}
 use Rattle.vm.specs.declared.VM.{VM}
 use Rattle.stack.specs.Stack.{entries, held_at}
-use Rattle.executor.specs.declared.Answer.TheVariants as answer
+use Rattle.executor.specs.declared.Refusal.{Refusal}
 use Rattle.executor.specs.declared.Phase.{Phase}
 use Rattle.executor.specs.declared.Phase.TheVariants as phase
 use Rattle.executor.specs.declared.Execution.{Execution}
 use Rattle.executor.specs.declared.ExecCbResult.{ExecCbResult}
 use Rattle.executor.specs.declared.ExecCbResult.TheVariants as how
-use Rattle.executor.specs.declared.Replied.{Replied}
-use Rattle.executor.specs.Standing.{Standing, standing, execution, dropped, on_phase, first_failing}
+use Rattle.executor.specs.Standing.{Standing, standing, execution, dropped, on_phase, first_failing, kept_of}
 use Rattle.executor.specs.Judge.{is_word}
 use Rattle.executor.specs.Next.{seen, top, Nexted, ended_at, stepped_at, resumed, popped, next_of, next_call}
-use Rattle.executor.specs.Reply.{replied, jumped, followed, reply_call}
+use Rattle.executor.specs.Reply.{jumped, followed, reply_call}
 use Rattle.executor.specs.Calls.{Kept, is_over, kept_by, with_state, Call, asked, answered, Calls, here, more, unvisited, words_ahead, calls_ahead, calls_left}
 use Rattle.executor.proofs.Answering.{next_is}
 use Rattle.executor.proofs.Judging.{held_word, word_fine}
@@ -90,17 +90,17 @@ module _ (im bs words : List ℕ) (k : Kept) (f : Fit im bs words k.count k.map 
   next_falls : (ph : Phase) → k.run.phase ≡ ph → not (waits ph) ≡ true → FallsTo (next_of im bs standing_here)
   next_falls phase.Idle e free = became (next_of im bs standing_here) (popped im bs standing_here) (rw e) (pop_falls (find im k.map words k.count))
   next_falls phase.Running e free = became (next_of im bs standing_here) (resumed im bs standing_here) (rw e) (run_falls e (is_word im at) refl)
-  next_falls phase.Waiting e free = let z : ◌≡◌ {A = ℕ} 0 1 = cc in absurd (omega arith)
+  next_falls phase.Waiting e free = absurd (cc)
 
 -- replying
 module _ (im bs words : List ℕ) (k : Kept) (s : VM) (f : Fit im bs words k.count k.map (with_state k.run s)) (waits-now : k.run.phase ≡ phase.Waiting) where
   abbrev run : Execution
   run = with_state k.run s
 
-  abbrev FallsWith : Replied → Type 0
-  FallsWith r = Falls im k (record { count = k.count; map = k.map; run = r.run })
+  abbrev FallsWith : Result Execution Refusal → Type 0
+  FallsWith r = Falls im k (record { count = k.count; map = k.map; run = kept_of k.run r })
 
-  with_same : (q r : Replied) → q ≡ r → FallsWith r → FallsWith q
+  with_same : (q r : Result Execution Refusal) → q ≡ r → FallsWith r → FallsWith q
   with_same q r e h = subst FallsWith (sym e) h
 
   at_word : is_word im run.at ≡ true
@@ -113,7 +113,7 @@ module _ (im bs words : List ℕ) (k : Kept) (s : VM) (f : Fit im bs words k.cou
   some_left = ahead_some im run.at (fit_judged f).tables at_word
 
   jump_falls : (q : SectionAddress) → is_word im q ≡ true → (t : Bool) → seen im k.map q ≡ t
-      → FallsWith (replied answer.Done (pick t (dropped run) (execution phase.Running q q s)))
+      → FallsWith (Ok (pick t (dropped run) (execution phase.Running q q s)))
   jump_falls q word true e = inr (omega (arith, before, some_left))
   jump_falls q word false e =
       let after : calls_ahead im k.map (execution phase.Running q q s) ≡ 0 = rw (word, e) in
@@ -126,7 +126,7 @@ module _ (im bs words : List ℕ) (k : Kept) (s : VM) (f : Fit im bs words k.cou
       inr (omega (arith, before, next, after))
   reply_falls (how.Jump q) e =
       let ok = accepted_jump im run q e in
-      with_same (jumped im k.map run q) (replied answer.Done (pick (seen im k.map q) (dropped run) (execution phase.Running q q s)))
+      with_same (jumped im k.map run q) (Ok (pick (seen im k.map q) (dropped run) (execution phase.Running q q s)))
       (rw (ok.0, word_fine im q ok.1)) (jump_falls q ok.1 (seen im k.map q) refl)
   reply_falls how.EndBlock e = inr (omega (arith, before, some_left))
   reply_falls how.End e = inr (omega (arith, before, some_left))
@@ -148,8 +148,8 @@ module _ (im bs words : List ℕ) where
   -- what is over stays so
   over_idle : (ph : Phase) (n : ℕ) → on_phase ph (eqb n 0) false false ≡ true → (ph ≡ phase.Idle) × (n ≡ 0)
   over_idle phase.Idle n e = (refl, eqb-true n 0 e)
-  over_idle phase.Running n e = let z : ◌≡◌ {A = ℕ} 0 1 = cc in absurd (omega arith)
-  over_idle phase.Waiting n e = let z : ◌≡◌ {A = ℕ} 0 1 = cc in absurd (omega arith)
+  over_idle phase.Running n e = absurd (cc)
+  over_idle phase.Waiting n e = absurd (cc)
 
   pub over_stays : (k l : Kept) → Call im bs words k l → is_over k ≡ true → is_over l ≡ true
   over_stays k _ (asked e) o =
@@ -165,8 +165,7 @@ module _ (im bs words : List ℕ) where
       let i = over_idle k.run.phase k.count o in
       let w = waiting k.run.phase a.1 in
       let z : phase.Idle ≡ phase.Waiting = sym i.0 ∙ w in
-      let zero_one : ◌≡◌ {A = ℕ} 0 1 = cc in
-      absurd (omega arith)
+      absurd (cc)
 
   over_on : (n : ℕ) (k l : Kept) → Calls im bs words n k l → is_over k ≡ true → is_over l ≡ true
   over_on n k l here o = o

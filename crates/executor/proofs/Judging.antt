@@ -2,20 +2,18 @@
 -- Assumes nothing.
 use Prim.Native.Nat.{ℕ, zero, suc, ◌+◌, ◌-◌, ◌<◌, ◌≤◌}
 use mathlib.Core.Path.{◌≡◌, refl, ◌∙◌}
+use Rattle.std.specs.Prelude.{Ok, Result, Err, ⊤, Some}
+use Rattle.std.specs.Result.{result_and}
 use mathlib.Core.Bool.{Bool, true, false, ◌&&◌}
 use mathlib.Core.List.{List}
 use native.Mathlib.Omega.{arith}
 use lib.ListN.{length}
-use Rattle.words.specs.Choice.{pick}
 use Rattle.words.specs.Bytes.{be32}
 use Rattle.places.specs.declared.SectionAddress.{SectionAddress}
 use Rattle.image.specs.Laid.{Laid}
 use Rattle.image.specs.Rules.{sound, tables_sound, data_inside}
 use Rattle.image.proofs.SoundTables.{laid, tables_of_sound, data_of_sound}
 use Rattle.lookups.specs.Code.{in_code, code_place}
-use Rattle.lookups.specs.declared.CodePlace.{CodePlace}
-use Rattle.lookups.specs.declared.CodePlace.TheVariants as place
-use Rattle.lookups.specs.declared.MaybeWord.TheVariants as read
 use Rattle.lookups.specs.Bytes.{offset_in, word_at}
 use Rattle.lookups.proofs.CodeBytes.{fine_place, code_bytes, code_word_at}
 use Rattle.slot.proofs.PutLaws.{every_holds}
@@ -25,17 +23,25 @@ use Rattle.stack.specs.Valid.{valid_stack}
 use Rattle.stack.proofs.ValidLaws.{valid_stack_lem, stack_valid}
 use Rattle.stack.proofs.Stacks.{pop_stack}
 use Rattle.executor.specs.declared.Phase.{Phase}
-use Rattle.executor.specs.declared.Verdict.TheVariants as verdict
-use Rattle.executor.specs.Judge.{on_place, is_word, is_placed, all_words, lawful, verdict_of}
+use Rattle.executor.specs.declared.Refusal.{Refusal}
+use Rattle.executor.specs.declared.Refusal.TheVariants as refusal
+use Rattle.executor.specs.Judge.{test, on_place, is_word, is_placed, all_words, lawful, verdict_of}
 use Rattle.executor.proofs.Waiting.{all_held}
+use Rattle.lookups.specs.declared.PlaceError.TheVariants as place
+use Rattle.lookups.specs.declared.PlaceError.{PlaceError}
+
+-- a test that refuses nothing has passed
+pub tested : (t : Bool) (why : Refusal) → test t why ≡ Ok tt → t ≡ true
+tested true why e = refl
+tested false why e = absurd (cc)
 
 -- the two tests of a judgement
-both_passed : (s t : Bool) → pick s (pick t verdict.Lawful verdict.BadStack) verdict.BrokenImage ≡ verdict.Lawful → (s ≡ true) × (t ≡ true)
+both_passed : (s t : Bool) → result_and (test s refusal.BrokenImage) (test t refusal.BadStack) ≡ Ok tt → (s ≡ true) × (t ≡ true)
 both_passed true true e = (refl, refl)
-both_passed true false e = let z : ◌≡◌ {A = ℕ} 0 1 = cc in absurd (omega arith)
-both_passed false t e = let z : ◌≡◌ {A = ℕ} 0 1 = cc in absurd (omega arith)
+both_passed true false e = absurd (cc)
+both_passed false t e = absurd (cc)
 
-pub lawful_says : (im : List ℕ) (d : ℕ) (words : List ℕ) (n : ℕ) (ph : Phase) (p : SectionAddress) → verdict_of im d words n ph p ≡ verdict.Lawful
+pub lawful_says : (im : List ℕ) (d : ℕ) (words : List ℕ) (n : ℕ) (ph : Phase) (p : SectionAddress) → verdict_of im d words n ph p ≡ Ok tt
     → (sound im d ≡ true) × (lawful im words n ph p ≡ true)
 lawful_says im d words n ph p e = both_passed (sound im d) (lawful im words n ph p) e
 
@@ -49,7 +55,7 @@ pub record Judged (im : List ℕ) (d : ℕ) (words : List ℕ) (n : ℕ) (ph : P
   pub at_words : all_words im (entries words n) ≡ true
   pub placed : is_placed im ph p ≡ true
 
-pub judged : (im : List ℕ) (d : ℕ) (words : List ℕ) (n : ℕ) (ph : Phase) (p : SectionAddress) → verdict_of im d words n ph p ≡ verdict.Lawful → Judged im d words n ph p
+pub judged : (im : List ℕ) (d : ℕ) (words : List ℕ) (n : ℕ) (ph : Phase) (p : SectionAddress) → verdict_of im d words n ph p ≡ Ok tt → Judged im d words n ph p
 judged im d words n ph p e =
     let both = lawful_says im d words n ph p e in
     let tables = tables_of_sound im d both.0 in
@@ -66,16 +72,16 @@ judged im d words n ph p e =
 
 -- and back
 pub lawful_by : (im : List ℕ) (d : ℕ) (words : List ℕ) (n : ℕ) (ph : Phase) (p : SectionAddress)
-    → sound im d ≡ true → Stack words n → all_words im (entries words n) ≡ true → is_placed im ph p ≡ true → verdict_of im d words n ph p ≡ verdict.Lawful
+    → sound im d ≡ true → Stack words n → all_words im (entries words n) ≡ true → is_placed im ph p ≡ true → verdict_of im d words n ph p ≡ Ok tt
 lawful_by im d words n ph p s st w h = rw (s, stack_valid words n st, w, h)
 
 -- a word is a fine place, and in code
-fine : (x : CodePlace) → on_place x false false true ≡ true → x ≡ place.Fine
-fine place.NotCode e = let z : ◌≡◌ {A = ℕ} 0 1 = cc in absurd (omega arith)
-fine place.Misaligned e = let z : ◌≡◌ {A = ℕ} 0 1 = cc in absurd (omega arith)
-fine place.Fine e = refl
+fine : (x : Result ⊤ PlaceError) → on_place x false false true ≡ true → x ≡ Ok tt
+fine (Err place.NotCode) e = absurd (cc)
+fine (Err place.Misaligned) e = absurd (cc)
+fine (Ok tt) e = refl
 
-pub word_fine : (im : List ℕ) (p : SectionAddress) → is_word im p ≡ true → code_place im p ≡ place.Fine
+pub word_fine : (im : List ℕ) (p : SectionAddress) → is_word im p ≡ true → code_place im p ≡ Ok tt
 word_fine im p e = fine (code_place im p) e
 
 pub word_in_code : (im : List ℕ) (p : SectionAddress) → is_word im p ≡ true → in_code im p ≡ true
@@ -92,11 +98,11 @@ fewer_words im words n m l e =
 
 -- the word that is read at a word's place
 pub word_read : (im bs : List ℕ) (p : SectionAddress) (w : ℕ) → tables_sound im ≡ true → data_inside im (length bs) ≡ true → is_word im p ≡ true
-    → read.Read w ≡ word_at im bs p → w ≡ be32 bs (offset_in im p.section p.address)
+    → Some w ≡ word_at im bs p → w ≡ be32 bs (offset_in im p.section p.address)
 word_read im bs p w t d e r =
     same_read w _ (r ∙ code_word_at im bs p (code_bytes im (length bs) p t d (word_fine im p e)))
   where
-    same_read : (a b : ℕ) → read.Read a ≡ read.Read b → a ≡ b
+    same_read : (a b : ℕ) → Some a ≡ Some b → a ≡ b
     same_read a b q = cc
 
 -- popping leaves a stack

@@ -2,28 +2,29 @@
 -- Assumes nothing.
 use Prim.Native.Nat.{ℕ, ◌≤◌}
 use mathlib.Core.Path.{◌≡◌, refl, sym, ◌∙◌, subst}
+use Rattle.std.specs.Prelude.{Result, Ok}
 use mathlib.Core.Bool.{Bool, true, false, not}
 use mathlib.Core.List.{List, []}
 use native.Mathlib.Omega.{arith}
 use lib.ListN.{length}
 use Rattle.words.specs.Choice.{pick}
+use Rattle.places.specs.Places.{moved}
 use Rattle.places.specs.declared.SectionAddress.{SectionAddress}
 use Rattle.lookups.specs.Code.{word_number}
 use Rattle.vm.specs.declared.VM.{VM}
 use Rattle.stack.specs.Stack.{entries, held_at}
 use Rattle.visited.specs.Bits.{with_bit}
 use Rattle.visited.proofs.BitLaws.{inserted_length}
-use Rattle.executor.specs.declared.Answer.TheVariants as answer
+use Rattle.executor.specs.declared.Refusal.{Refusal}
 use Rattle.executor.specs.declared.Phase.{Phase}
 use Rattle.executor.specs.declared.Phase.TheVariants as phase
 use Rattle.executor.specs.declared.Execution.{Execution}
 use Rattle.executor.specs.declared.ExecCbResult.{ExecCbResult}
 use Rattle.executor.specs.declared.ExecCbResult.TheVariants as how
-use Rattle.executor.specs.declared.Replied.{Replied}
-use Rattle.executor.specs.Standing.{Standing, standing, execution, dropped, number_of, outcome_number, first_failing}
+use Rattle.executor.specs.Standing.{Standing, standing, execution, dropped, number_of, kept_of, first_failing}
 use Rattle.executor.specs.Judge.{is_word, is_placed}
 use Rattle.executor.specs.Next.{seen, Nexted, ended_at, stepped_at, resumed, popped, next_of, next_call}
-use Rattle.executor.specs.Reply.{replied, jumped, followed, reply_call}
+use Rattle.executor.specs.Reply.{jumped, followed, reply_call}
 use Rattle.executor.specs.Calls.{Kept, kept_by, with_state, Call, asked, answered}
 use Rattle.executor.proofs.Answering.{next_is}
 use Rattle.executor.proofs.Judging.{lawful_says, lawful_by, held_word, fewer_held, fewer_words, word_fine}
@@ -81,30 +82,30 @@ module _ (im bs words : List ℕ) where
     next_fit : (ph : Phase) → k.run.phase ≡ ph → not (waits ph) ≡ true → FitKept (kept_by (next_of im bs here))
     next_fit phase.Idle e free = became (next_of im bs here) (popped im bs here) (rw e) (pop_fit (find im k.map words k.count))
     next_fit phase.Running e free = became (next_of im bs here) (resumed im bs here) (rw e) (run_fit (is_word im k.run.at) refl)
-    next_fit phase.Waiting e free = let z : ◌≡◌ {A = ℕ} 0 1 = cc in absurd (omega arith)
+    next_fit phase.Waiting e free = absurd (cc)
 
   -- a reply: nothing under way, or a run at a word or its section's end
   module _ (k : Kept) (s : VM) (f : Fit im bs words k.count k.map (with_state k.run s)) (waits-now : k.run.phase ≡ phase.Waiting) where
     abbrev run : Execution
     run = with_state k.run s
 
-    abbrev FitWith : Replied → Type 0
-    FitWith r = Fit im bs words k.count k.map r.run
+    abbrev FitWith : Result Execution Refusal → Type 0
+    FitWith r = Fit im bs words k.count k.map (kept_of k.run r)
 
     placed_fit : (r : Execution) → is_placed im r.phase r.at ≡ true → Fit im bs words k.count k.map r
     placed_fit r h = fit_again k.count k.map run f k.count k.map r (omega arith) refl h
 
-    jump_fit : (q : SectionAddress) → is_word im q ≡ true → (t : Bool) → FitWith (replied answer.Done (pick t (dropped run) (execution phase.Running q q s)))
+    jump_fit : (q : SectionAddress) → is_word im q ≡ true → (t : Bool) → FitWith (Ok (pick t (dropped run) (execution phase.Running q q s)))
     jump_fit q w true = placed_fit (dropped run) refl
     jump_fit q w false = placed_fit (execution phase.Running q q s) (rw w)
 
     reply_fit : (h : ExecCbResult) → first_failing (jump_tests im run h) ≡ 0 → FitWith (followed im k.map run h)
     reply_fit how.Continue e =
-        placed_fit (followed im k.map run how.Continue).run
+        placed_fit (execution phase.Running (moved run.at 4) run.block_start run.vm)
         (word_or_end im run.at (fit_judged f).tables (rw waits-now at (fit_judged f).placed))
     reply_fit (how.Jump q) e =
         let ok = accepted_jump im run q e in
-        let is : jumped im k.map run q ≡ replied answer.Done (pick (seen im k.map q) (dropped run) (execution phase.Running q q s)) =
+        let is : jumped im k.map run q ≡ Ok (pick (seen im k.map q) (dropped run) (execution phase.Running q q s)) =
         rw (ok.0, word_fine im q ok.1) in
         subst FitWith (sym is) (jump_fit q ok.1 (seen im k.map q))
     reply_fit how.EndBlock e = placed_fit (dropped run) refl
@@ -119,18 +120,18 @@ module _ (im bs words : List ℕ) where
   call_fit k _ (answered how s e) =
       let a = accepted_reply im bs words k.count k.map (with_state k.run s) how e in
       let w = waiting k.run.phase a.1 in
-      subst (λ (r : Replied). Fit im bs words k.count k.map r.run)
+      subst (λ (r : Result Execution Refusal). Fit im bs words k.count k.map (kept_of k.run r))
       (sym (reply_is im bs words k.count k.map (with_state k.run s) how a.0 w)) (reply_fit k s a.0 w how a.2)
 
   -- the caller can go on: by asking where nothing waits, by any reply but a Jump where something does
-  pub can_ask : (k : Kept) → FitKept k → waits k.run.phase ≡ false → outcome_number (next_call im bs words k.count k.map k.run).outcome ≡ 0
+  pub can_ask : (k : Kept) → FitKept k → waits k.run.phase ≡ false → number_of (next_call im bs words k.count k.map k.run).outcome ≡ 0
   unfolding first_failing
   can_ask k f w =
       let says = lawful_says im (length bs) words k.count k.run.phase k.run.at f.fine in
       next_number im bs words k.count k.map k.run ∙ rw (says.0, says.1, f.room, w)
 
   pub can_reply : (k : Kept) (h : ExecCbResult) → FitKept k → waits k.run.phase ≡ true → first_failing (jump_tests im k.run h) ≡ 0
-      → number_of (reply_call im (length bs) words k.count k.map k.run h).answer ≡ 0
+      → number_of (reply_call im (length bs) words k.count k.map k.run h) ≡ 0
   unfolding first_failing
   can_reply k h f w e =
       let says = lawful_says im (length bs) words k.count k.run.phase k.run.at f.fine in

@@ -2,6 +2,7 @@
 -- Assumes what the state's type says of it, which `push` hands on.
 use Prim.Native.Nat.{ℕ, ◌+◌, ◌%◌}
 use mathlib.Core.Path.{◌≡◌, refl, sym, ap, ◌∙◌, subst}
+use Rattle.std.specs.Prelude.{Ok}
 use mathlib.Core.Bool.{Bool, true, false, ◌&&◌}
 use mathlib.Core.List.{List, [], ◌∷◌, ◌++◌}
 use lib.Dec.{ltb, eqb}
@@ -14,16 +15,14 @@ use Rattle.image.specs.Rules.{sound}
 use Rattle.lookups.specs.Code.{in_code}
 use Rattle.vm.specs.declared.VM.{VM}
 use Rattle.slot.specs.Fits.{Fits}
+use Rattle.std.specs.Prelude.{Option, Some}
 use Rattle.stack.specs.Sort.{insert_by, insert_all, sort_by}
 use Rattle.stack.specs.Stack.{Entry, Stack, entries, entry_key, room}
 use Rattle.stack.specs.Push.{pushed_words, Pushes}
-use Rattle.stack.specs.declared.Pushed.{Pushed}
 use Rattle.stack.proofs.Stacks.{plain_push, sorted_push}
-use Rattle.executor.specs.declared.Answer.TheVariants as answer
 use Rattle.executor.specs.declared.Phase.{Phase}
 use Rattle.executor.specs.declared.Phase.TheVariants as phase
-use Rattle.executor.specs.declared.Verdict.TheVariants as verdict
-use Rattle.executor.specs.Standing.{number_of, first_failing}
+use Rattle.executor.specs.Standing.{number_of, kept_of, first_failing}
 use Rattle.executor.specs.Judge.{is_word, is_placed, all_words, lawful, verdict_of}
 use Rattle.executor.specs.Push as call
 use Rattle.executor.specs.Push.{pushes, push_call}
@@ -54,7 +53,7 @@ all_words_sorted im to (e ∷ es) g h =
     (insert_words im e to (and_left (is_word im e.place) (all_words im es) h) g) (and_right (is_word im e.place) (all_words im es) h)
 
 module _ (im : List ℕ) (d : ℕ) (words : List ℕ) (n : ℕ) (p : SectionAddress) (s : VM) (sorted : Bool)
-    (accepted : number_of (push_call im d words n p s sorted).result.answer ≡ 0) (fits : Fits s) where
+    (accepted : number_of (push_call im d words n p s sorted).result ≡ 0) (fits : Fits s) where
   abbrev entry : Entry
   entry = record { place = p; state = s }
 
@@ -83,7 +82,7 @@ module _ (im : List ℕ) (d : ℕ) (words : List ℕ) (n : ℕ) (p : SectionAddr
   word : is_word im p ≡ true
   word = rw (two.0, three.0)
 
-  push_is : push_call im d words n p s sorted ≡ pushes answer.Done (n + 1) (pushed_words words n p s sorted)
+  push_is : push_call im d words n p s sorted ≡ pushes (Ok (n + 1)) (pushed_words words n p s sorted)
   push_is = rw (one.0, twelve.0, two.0, three.0, free)
 
   means : (t : Bool)
@@ -91,8 +90,8 @@ module _ (im : List ℕ) (d : ℕ) (words : List ℕ) (n : ℕ) (p : SectionAddr
       × Stack (pushed_words words n p s t) (n + 1)
   means t = by t
     where
-      r : Pushed
-      r = record { taken = true; count = n + 1 }
+      r : Option ℕ
+      r = Some (n + 1)
 
       kept : (t : Bool) → Pushes words n p s t r (pushed_words words n p s t)
       kept t = record { taken = sym free; count = refl; words = refl; fits = λ e. fits }
@@ -104,7 +103,7 @@ module _ (im : List ℕ) (d : ℕ) (words : List ℕ) (n : ℕ) (p : SectionAddr
       by false = plain_push words n p s fine.held r (pushed_words words n p s false) (kept false) (ltb-true _ _ free)
 
   -- the states in the words that a push leaves
-  pub push_means : entries (push_call im d words n p s sorted).words (push_call im d words n p s sorted).result.count ≡ pushed
+  pub push_means : entries (push_call im d words n p s sorted).words (kept_of n (push_call im d words n p s sorted).result) ≡ pushed
   push_means = rw push_is (means sorted).0
 
   -- and they are fit, wherever the caller's own execution stands
@@ -118,7 +117,7 @@ module _ (im : List ℕ) (d : ℕ) (words : List ℕ) (n : ℕ) (p : SectionAddr
       by false h = h
 
   pub push_lawful : (ph : Phase) (at : SectionAddress) → is_placed im ph at ≡ true
-      → verdict_of im d (push_call im d words n p s sorted).words (push_call im d words n p s sorted).result.count ph at ≡ verdict.Lawful
+      → verdict_of im d (push_call im d words n p s sorted).words (kept_of n (push_call im d words n p s sorted).result) ph at ≡ Ok tt
   push_lawful ph at h =
-      subst (λ (q : call.Pushes). verdict_of im d q.words q.result.count ph at ≡ verdict.Lawful) (sym push_is)
+      subst (λ (q : call.Pushes). verdict_of im d q.words (kept_of n q.result) ph at ≡ Ok tt) (sym push_is)
       (lawful_by im d (pushed_words words n p s sorted) (n + 1) ph at fine.image (means sorted).1 (ap (all_words im) (means sorted).0 ∙ pushed_words_lem sorted) h)

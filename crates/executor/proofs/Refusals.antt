@@ -2,6 +2,8 @@
 -- Assumes nothing.
 use Prim.Native.Nat.{ℕ, ◌+◌, ◌%◌}
 use mathlib.Core.Path.{◌≡◌, refl}
+use Rattle.std.specs.Prelude.{Result, Ok, Err}
+use Rattle.std.specs.Result.{result_and}
 use mathlib.Core.Bool.{Bool, true, false, not}
 use mathlib.Core.List.{List, [], ◌∷◌}
 use lib.Dec.{eqb, ltb}
@@ -10,25 +12,24 @@ use Rattle.words.specs.Choice.{pick}
 use Rattle.places.specs.declared.SectionAddress.{SectionAddress}
 use Rattle.image.specs.Rules.{sound, code_words}
 use Rattle.lookups.specs.Code.{in_code}
-use Rattle.lookups.specs.declared.CodePlace.TheVariants as place
 use Rattle.vm.specs.declared.VM.{VM}
 use Rattle.stack.specs.Push.{pushed_words}
 use Rattle.stack.specs.Stack.{entries, room}
 use Rattle.visited.specs.Bits.{has_room}
-use Rattle.executor.specs.declared.Answer.TheVariants as answer
+use Rattle.executor.specs.declared.Refusal.{Refusal}
+use Rattle.executor.specs.declared.Refusal.TheVariants as refusal
 use Rattle.executor.specs.declared.Phase.{Phase}
 use Rattle.executor.specs.declared.Phase.TheVariants as phase
 use Rattle.executor.specs.declared.Execution.{Execution}
 use Rattle.executor.specs.declared.ExecCbResult.{ExecCbResult}
 use Rattle.executor.specs.declared.ExecCbResult.TheVariants as how
-use Rattle.executor.specs.declared.Replied.{Replied}
-use Rattle.executor.specs.declared.Verdict.TheVariants as verdict
-use Rattle.executor.specs.Standing.{Standing, standing, execution, dropped, on_phase, number_of, outcome_number, first_failing}
-use Rattle.executor.specs.Judge.{on_place, is_word, lawful, on_verdict}
+use Rattle.executor.specs.Standing.{Standing, standing, execution, dropped, on_phase, on_answer, number_of, kept_of, first_failing}
+use Rattle.executor.specs.Judge.{test, place_answer, is_word, lawful}
 use Rattle.executor.specs.Next.{seen, Top, none, some, on_top, top, Nexted, refused_at, ended_at, stepped_at, resumed, popped, next_call}
-use Rattle.executor.specs.Reply.{replied, followed, reply_call}
+use Rattle.executor.specs.Reply.{followed, reply_call}
 use Rattle.executor.specs.Push.{Pushes, pushes, push_call}
-use Rattle.executor.specs.Visits.{visit, visit_call}
+use Rattle.executor.specs.Visits.{visit_call}
+use Rattle.lookups.specs.declared.PlaceError.TheVariants as place
 
 -- an instruction waits
 abbrev pub waits : Phase → Bool
@@ -39,22 +40,21 @@ module _ (im bs words : List ℕ) (n : ℕ) (v : List ℕ) (run : Execution) whe
   abbrev here : Standing
   here = standing (entries words n) v run
 
-  by_top : (t : Top) → outcome_number (on_top t (ended_at [] v run) (λ es e. stepped_at im bs es v e.place e.place e.state)).outcome ≡ 0
+  by_top : (t : Top) → number_of (on_top t (ended_at [] v run) (λ es e. stepped_at im bs es v e.place e.place e.state)).outcome ≡ 0
   by_top none = refl
   by_top (some es e) = refl
 
   by_word : (t : Bool)
-      → outcome_number (pick t (stepped_at im bs (entries words n) v run.at run.block_start run.vm) (ended_at (entries words n) v run)).outcome ≡ 0
+      → number_of (pick t (stepped_at im bs (entries words n) v run.at run.block_start run.vm) (ended_at (entries words n) v run)).outcome ≡ 0
   by_word true = refl
   by_word false = refl
 
-  next_by : (s l r : Bool) (ph : Phase) (i g : Nexted) → outcome_number i.outcome ≡ 0 → outcome_number g.outcome ≡ 0
+  next_by : (s l r : Bool) (ph : Phase) (i g : Nexted) → number_of i.outcome ≡ 0 → number_of g.outcome ≡ 0
       → (q : Nexted)
-      → q ≡ on_verdict (pick s (pick l verdict.Lawful verdict.BadStack) verdict.BrokenImage)
-      (refused_at answer.BrokenImage here) (refused_at answer.BadStack here)
-      (pick r (on_phase ph i g (refused_at answer.OutOfTurn here)) (refused_at answer.SmallMap here))
-      → (outcome_number q.outcome ≡ first_failing ((s, 1) ∷ (l, 12) ∷ (r, 4) ∷ (not (waits ph), 11) ∷ []))
-      × ((outcome_number q.outcome ≡ 0 → ⊥) → q.then ≡ here)
+      → q ≡ on_answer (result_and (result_and (test s refusal.BrokenImage) (test l refusal.BadStack)) (test r refusal.SmallMap))
+      (λ why. refused_at why here) (λ fine. on_phase ph i g (refused_at refusal.OutOfTurn here))
+      → (number_of q.outcome ≡ first_failing ((s, 1) ∷ (l, 12) ∷ (r, 4) ∷ (not (waits ph), 11) ∷ []))
+      × ((number_of q.outcome ≡ 0 → ⊥) → q.then ≡ here)
   unfolding first_failing
   next_by true true true phase.Idle i g a b q e = rw e (a, λ no. absurd (no a))
   next_by true true true phase.Running i g a b q e = rw e (b, λ no. absurd (no b))
@@ -63,18 +63,18 @@ module _ (im bs words : List ℕ) (n : ℕ) (v : List ℕ) (run : Execution) whe
   next_by true false r ph i g a b q e = rw e (refl, λ no. refl)
   next_by false l r ph i g a b q e = rw e (refl, λ no. refl)
 
-  next_said : (outcome_number (next_call im bs words n v run).outcome
+  next_said : (number_of (next_call im bs words n v run).outcome
       ≡ first_failing ((sound im (length bs), 1) ∷ (lawful im words n run.phase run.at, 12) ∷ (has_room v (code_words im), 4) ∷ (not (waits run.phase), 11) ∷ []))
-      × ((outcome_number (next_call im bs words n v run).outcome ≡ 0 → ⊥) → (next_call im bs words n v run).then ≡ here)
+      × ((number_of (next_call im bs words n v run).outcome ≡ 0 → ⊥) → (next_call im bs words n v run).then ≡ here)
   next_said =
       next_by (sound im (length bs)) (lawful im words n run.phase run.at) (has_room v (code_words im)) run.phase
       (popped im bs here) (resumed im bs here) (by_top (top im v (entries words n))) (by_word (is_word im run.at)) (next_call im bs words n v run) refl
 
-  pub next_number : outcome_number (next_call im bs words n v run).outcome
+  pub next_number : number_of (next_call im bs words n v run).outcome
       ≡ first_failing ((sound im (length bs), 1) ∷ (lawful im words n run.phase run.at, 12) ∷ (has_room v (code_words im), 4) ∷ (not (waits run.phase), 11) ∷ [])
   next_number = next_said.0
 
-  pub refused_next_touches_nothing : (outcome_number (next_call im bs words n v run).outcome ≡ 0 → ⊥) → (next_call im bs words n v run).then ≡ here
+  pub refused_next_touches_nothing : (number_of (next_call im bs words n v run).outcome ≡ 0 → ⊥) → (next_call im bs words n v run).then ≡ here
   refused_next_touches_nothing = next_said.1
 
 -- `reply`: 1, 12, 4, 11, and for a Jump 6, 2, 3
@@ -85,13 +85,14 @@ jump_tests im run how.EndBlock = []
 jump_tests im run how.End = []
 
 module _ (im v : List ℕ) (run : Execution) where
-  abbrev Said : Replied → ℕ → Type 0
-  Said r k = (number_of r.answer ≡ k) × ((number_of r.answer ≡ 0 → ⊥) → r.run ≡ run)
+  abbrev Said : Result Execution Refusal → ℕ → Type 0
+  Said r k = (number_of r ≡ k) × ((number_of r ≡ 0 → ⊥) → kept_of run r ≡ run)
 
   jump_by_lem : (x c a t : Bool) (z w : Execution)
       → Said
-      (pick x (on_place (pick c (pick a place.Fine place.Misaligned) place.NotCode) (replied answer.NotCode run) (replied answer.Misaligned run) (replied answer.Done (pick t z w)))
-      (replied answer.OtherSection run))
+      (result_and
+      (result_and (test x refusal.OtherSection) (place_answer (pick c (pick a (Ok tt) (Err place.Misaligned)) (Err place.NotCode))))
+      (Ok (pick t z w)))
       (first_failing ((x, 6) ∷ (c, 2) ∷ (a, 3) ∷ []))
   unfolding first_failing
   jump_by_lem true true true t z w = (refl, λ no. absurd (no refl))
@@ -107,11 +108,10 @@ module _ (im v : List ℕ) (run : Execution) where
   followed_said how.EndBlock = (refl, λ no. absurd (no refl))
   followed_said how.End = (refl, λ no. absurd (no refl))
 
-  reply_by : (s l r : Bool) (ph : Phase) (ts : List (Bool × ℕ)) (f : Replied) → Said f (first_failing ts)
+  reply_by : (s l r : Bool) (ph : Phase) (ts : List (Bool × ℕ)) (f : Result Execution Refusal) → Said f (first_failing ts)
       → Said
-      (on_verdict (pick s (pick l verdict.Lawful verdict.BadStack) verdict.BrokenImage)
-      (replied answer.BrokenImage run) (replied answer.BadStack run)
-      (pick r (on_phase ph (replied answer.OutOfTurn run) (replied answer.OutOfTurn run) f) (replied answer.SmallMap run)))
+      (result_and (result_and (result_and (test s refusal.BrokenImage) (test l refusal.BadStack)) (test r refusal.SmallMap))
+      (on_phase ph (Err refusal.OutOfTurn) (Err refusal.OutOfTurn) f))
       (first_failing ((s, 1) ∷ (l, 12) ∷ (r, 4) ∷ (waits ph, 11) ∷ ts))
   unfolding first_failing
   reply_by true true true phase.Idle ts f e = (refl, λ no. refl)
@@ -128,22 +128,22 @@ module _ (im v : List ℕ) (run : Execution) where
         reply_by (sound im d) (lawful im words n run.phase run.at) (has_room v (code_words im)) run.phase (jump_tests im run h)
         (followed im v run h) (followed_said h)
 
-    pub reply_number : number_of (reply_call im d words n v run h).answer
+    pub reply_number : number_of (reply_call im d words n v run h)
         ≡ first_failing ((sound im d, 1) ∷ (lawful im words n run.phase run.at, 12) ∷ (has_room v (code_words im), 4) ∷ (waits run.phase, 11) ∷ jump_tests im run h)
     reply_number = reply_said.0
 
-    pub refused_reply_still_waits : (number_of (reply_call im d words n v run h).answer ≡ 0 → ⊥) → (reply_call im d words n v run h).run ≡ run
+    pub refused_reply_still_waits : (number_of (reply_call im d words n v run h) ≡ 0 → ⊥) → kept_of run (reply_call im d words n v run h) ≡ run
     refused_reply_still_waits = reply_said.1
 
 -- `push`: 1, 12, 2, 3, 5
 module _ (im : List ℕ) (d : ℕ) (words : List ℕ) (n : ℕ) (p : SectionAddress) (s : VM) (sorted : Bool) where
   push_by : (t l c a f : Bool) (k : ℕ) (words' : List ℕ) (q : Pushes)
-      → q ≡ on_verdict (pick t (pick l verdict.Lawful verdict.BadStack) verdict.BrokenImage)
-      (pushes answer.BrokenImage n words) (pushes answer.BadStack n words)
-      (on_place (pick c (pick a place.Fine place.Misaligned) place.NotCode) (pushes answer.NotCode n words) (pushes answer.Misaligned n words)
-      (pick f (pushes answer.Done k words') (pushes answer.StackFull n words)))
-      → (number_of q.result.answer ≡ first_failing ((t, 1) ∷ (l, 12) ∷ (c, 2) ∷ (a, 3) ∷ (f, 5) ∷ []))
-      × ((number_of q.result.answer ≡ 0 → ⊥) → (q.result.count ≡ n) × (q.words ≡ words))
+      → q ≡ on_answer
+      (result_and (result_and (test t refusal.BrokenImage) (test l refusal.BadStack))
+      (place_answer (pick c (pick a (Ok tt) (Err place.Misaligned)) (Err place.NotCode))))
+      (λ why. pushes (Err why) words) (λ fine. pick f (pushes (Ok k) words') (pushes (Err refusal.StackFull) words))
+      → (number_of q.result ≡ first_failing ((t, 1) ∷ (l, 12) ∷ (c, 2) ∷ (a, 3) ∷ (f, 5) ∷ []))
+      × ((number_of q.result ≡ 0 → ⊥) → (kept_of n q.result ≡ n) × (q.words ≡ words))
   unfolding first_failing
   push_by true true true true true k words' q e = rw e (refl, λ no. absurd (no refl))
   push_by true true true true false k words' q e = rw e (refl, λ no. (refl, refl))
@@ -152,32 +152,33 @@ module _ (im : List ℕ) (d : ℕ) (words : List ℕ) (n : ℕ) (p : SectionAddr
   push_by true false c a f k words' q e = rw e (refl, λ no. (refl, refl))
   push_by false l c a f k words' q e = rw e (refl, λ no. (refl, refl))
 
-  push_said : (number_of (push_call im d words n p s sorted).result.answer
+  push_said : (number_of (push_call im d words n p s sorted).result
       ≡ first_failing ((sound im d, 1) ∷ (lawful im words n phase.Idle p, 12) ∷ (in_code im p, 2) ∷ (eqb (p.address % 4) 0, 3) ∷ (ltb n (room (length words)), 5) ∷ []))
-      × ((number_of (push_call im d words n p s sorted).result.answer ≡ 0 → ⊥) → ((push_call im d words n p s sorted).result.count ≡ n) × ((push_call im d words n p s sorted).words ≡ words))
+      × ((number_of (push_call im d words n p s sorted).result ≡ 0 → ⊥) → (kept_of n (push_call im d words n p s sorted).result ≡ n) × ((push_call im d words n p s sorted).words ≡ words))
   push_said =
       push_by (sound im d) (lawful im words n phase.Idle p) (in_code im p) (eqb (p.address % 4) 0) (ltb n (room (length words)))
       (n + 1) (pushed_words words n p s sorted) (push_call im d words n p s sorted) refl
 
-  pub push_number : number_of (push_call im d words n p s sorted).result.answer
+  pub push_number : number_of (push_call im d words n p s sorted).result
       ≡ first_failing ((sound im d, 1) ∷ (lawful im words n phase.Idle p, 12) ∷ (in_code im p, 2) ∷ (eqb (p.address % 4) 0, 3) ∷ (ltb n (room (length words)), 5) ∷ [])
   push_number = push_said.0
 
-  pub refused_push_touches_nothing : (number_of (push_call im d words n p s sorted).result.answer ≡ 0 → ⊥)
-      → ((push_call im d words n p s sorted).result.count ≡ n) × ((push_call im d words n p s sorted).words ≡ words)
+  pub refused_push_touches_nothing : (number_of (push_call im d words n p s sorted).result ≡ 0 → ⊥)
+      → (kept_of n (push_call im d words n p s sorted).result ≡ n) × ((push_call im d words n p s sorted).words ≡ words)
   refused_push_touches_nothing = push_said.1
 
 -- `visited`: 1, 4, 2, 3
 pub visit_number : (im : List ℕ) (d : ℕ) (v : List ℕ) (p : SectionAddress)
-    → number_of (visit_call im d v p).answer ≡ first_failing ((sound im d, 1) ∷ (has_room v (code_words im), 4) ∷ (in_code im p, 2) ∷ (eqb (p.address % 4) 0, 3) ∷ [])
+    → number_of (visit_call im d v p) ≡ first_failing ((sound im d, 1) ∷ (has_room v (code_words im), 4) ∷ (in_code im p, 2) ∷ (eqb (p.address % 4) 0, 3) ∷ [])
 unfolding first_failing
 visit_number im d v p = by (sound im d) (has_room v (code_words im)) (in_code im p) (eqb (p.address % 4) 0)
   where
     by : (s r c a : Bool)
         → number_of
-        (pick s
-        (pick r (on_place (pick c (pick a place.Fine place.Misaligned) place.NotCode) (visit answer.NotCode false) (visit answer.Misaligned false) (visit answer.Done (seen im v p))) (visit answer.SmallMap false))
-        (visit answer.BrokenImage false)).answer
+        (result_and
+        (result_and (result_and (test s refusal.BrokenImage) (test r refusal.SmallMap))
+        (place_answer (pick c (pick a (Ok tt) (Err place.Misaligned)) (Err place.NotCode))))
+        (Ok (seen im v p)))
         ≡ first_failing ((s, 1) ∷ (r, 4) ∷ (c, 2) ∷ (a, 3) ∷ [])
     by true true true true = refl
     by true true true false = refl

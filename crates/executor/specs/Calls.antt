@@ -9,7 +9,7 @@ use Rattle.vm.specs.declared.VM.{VM}
 use Rattle.visited.specs.Bits.{ones_below}
 use Rattle.executor.specs.declared.Execution.{Execution}
 use Rattle.executor.specs.declared.ExecCbResult.{ExecCbResult}
-use Rattle.executor.specs.Standing.{execution, on_phase, number_of, outcome_number}
+use Rattle.executor.specs.Standing.{execution, on_phase, number_of, kept_of}
 use Rattle.executor.specs.Judge.{is_word}
 use Rattle.executor.specs.Next.{seen, Nexted, next_call}
 use Rattle.executor.specs.Reply.{reply_call}
@@ -33,11 +33,11 @@ with_state run s = execution run.phase run.at run.block_start s
 
 -- one call that is not refused: the next instruction, or a reply, with whatever state
 pub data Call (im bs words : List ℕ) (k : Kept) : Kept → Type 0 where
-  asked : outcome_number (next_call im bs words k.count k.map k.run).outcome ≡ 0
+  asked : number_of (next_call im bs words k.count k.map k.run).outcome ≡ 0
       → Call im bs words k (kept_by (next_call im bs words k.count k.map k.run))
-  answered : (how : ExecCbResult) (s : VM) → number_of (reply_call im (length bs) words k.count k.map (with_state k.run s) how).answer ≡ 0
+  answered : (how : ExecCbResult) (s : VM) → number_of (reply_call im (length bs) words k.count k.map (with_state k.run s) how) ≡ 0
       → Call im bs words k
-      (record { count = k.count; map = k.map; run = (reply_call im (length bs) words k.count k.map (with_state k.run s) how).run })
+      (record { count = k.count; map = k.map; run = kept_of k.run (reply_call im (length bs) words k.count k.map (with_state k.run s) how) })
 
 -- so many of them, one after the other
 pub data Calls (im bs words : List ℕ) : ℕ → Kept → Kept → Type 0 where

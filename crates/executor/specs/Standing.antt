@@ -1,17 +1,16 @@
 -- Where an execution stands, and the numbers of the answers.
 -- Assumes nothing.
-use Rattle.std.specs.Prelude.{ℕ, Bool, List, [], ◌∷◌}
+use Rattle.std.specs.Prelude.{ℕ, Bool, List, [], ◌∷◌, Result, Ok, Err}
 use Rattle.words.specs.Choice.{pick}
 use Rattle.places.specs.declared.SectionAddress.{SectionAddress}
 use Rattle.vm.specs.declared.VM.{VM}
+use Rattle.vm.specs.States.{fresh}
 use Rattle.stack.specs.Stack.{Entry}
 use Rattle.executor.specs.declared.Phase.{Phase}
 use Rattle.executor.specs.declared.Phase.TheVariants as phase
 use Rattle.executor.specs.declared.Execution.{Execution}
-use Rattle.executor.specs.declared.Answer.{Answer}
-use Rattle.executor.specs.declared.Answer.TheVariants as answer
-use Rattle.executor.specs.declared.Outcome.{Outcome}
-use Rattle.executor.specs.declared.Outcome.TheVariants as outcome
+use Rattle.executor.specs.declared.Refusal.{Refusal}
+use Rattle.executor.specs.declared.Refusal.TheVariants as refusal
 
 -- the waiting states (the next to pop last), the visited words, and what is under way
 pub record Standing : Type 0 where
@@ -29,28 +28,41 @@ execution ph at start s = record { phase = ph; at = at; block_start = start; vm 
 abbrev pub dropped : Execution → Execution
 dropped run = execution phase.Idle run.at run.block_start run.vm
 
+-- nothing is under way yet, and all is Unknown
+abbrev pub at_rest : Execution
+at_rest = execution phase.Idle (record { section = 0; address = 0 }) (record { section = 0; address = 0 }) fresh
+
 -- by cases: nothing under way, running, waiting
 abbrev pub on_phase : {B : Type 0} → Phase → B → B → B → B
 on_phase phase.Idle i r w = i
 on_phase phase.Running i r w = r
 on_phase phase.Waiting i r w = w
 
--- document 01's number of each answer
-abbrev pub number_of : Answer → ℕ
-number_of answer.Done = 0
-number_of answer.BrokenImage = 1
-number_of answer.BadStack = 12
-number_of answer.SmallMap = 4
-number_of answer.OutOfTurn = 11
-number_of answer.OtherSection = 6
-number_of answer.NotCode = 2
-number_of answer.Misaligned = 3
-number_of answer.StackFull = 5
+-- by cases: refused, or not
+abbrev pub on_answer : {A B : Type 0} → Result A Refusal → (Refusal → B) → (A → B) → B
+on_answer (Err why) f g = f why
+on_answer (Ok a) f g = g a
 
-abbrev pub outcome_number : Outcome → ℕ
-outcome_number (outcome.Refused why) = number_of why
-outcome_number outcome.Ended = 0
-outcome_number (outcome.Stepped r) = 0
+-- document 01's number of each refusal
+abbrev pub refusal_number : Refusal → ℕ
+refusal_number refusal.BrokenImage = 1
+refusal_number refusal.BadStack = 12
+refusal_number refusal.SmallMap = 4
+refusal_number refusal.OutOfTurn = 11
+refusal_number refusal.OtherSection = 6
+refusal_number refusal.NotCode = 2
+refusal_number refusal.Misaligned = 3
+refusal_number refusal.StackFull = 5
+
+-- and of each answer: 0 where the call is not refused
+abbrev pub number_of : {A : Type 0} → Result A Refusal → ℕ
+number_of (Err why) = refusal_number why
+number_of (Ok a) = 0
+
+-- what a caller has after a call: what it answered, or, refused, what he had
+abbrev pub kept_of : {A : Type 0} → A → Result A Refusal → A
+kept_of a (Err why) = a
+kept_of a (Ok b) = b
 
 -- the number of the first test that fails, or 0
 unfoldable pub first_failing : List (Bool × ℕ) → ℕ

@@ -1,25 +1,12 @@
 -- `visited`: whether the word at a place was visited.
 -- Assumes nothing.
-use Rattle.std.specs.Prelude.{ℕ, Bool, false, List}
-use Rattle.words.specs.Choice.{pick}
+use Rattle.std.specs.Prelude.{ℕ, Bool, List, Result, Ok}
+use Rattle.std.specs.Result.{result_and}
 use Rattle.places.specs.declared.SectionAddress.{SectionAddress}
-use Rattle.image.specs.Rules.{sound, code_words}
-use Rattle.lookups.specs.Code.{code_place}
-use Rattle.visited.specs.Bits.{has_room}
-use Rattle.executor.specs.declared.Answer.{Answer}
-use Rattle.executor.specs.declared.Answer.TheVariants as answer
-use Rattle.executor.specs.declared.Visit.{Visit}
-use Rattle.executor.specs.Judge.{on_place}
+use Rattle.executor.specs.declared.Refusal.{Refusal}
+use Rattle.executor.specs.Judge.{image_of, room_of, word_of}
 use Rattle.executor.specs.Next.{seen}
 
-abbrev pub visit : Answer → Bool → Visit
-visit a t = record { answer = a; visited = t }
-
 -- 1, 4, 2, 3, or the bit
-abbrev pub visit_call : List ℕ → ℕ → List ℕ → SectionAddress → Visit
-visit_call im d v p =
-    pick (sound im d)
-    (pick (has_room v (code_words im))
-    (on_place (code_place im p) (visit answer.NotCode false) (visit answer.Misaligned false) (visit answer.Done (seen im v p)))
-    (visit answer.SmallMap false))
-    (visit answer.BrokenImage false)
+abbrev pub visit_call : List ℕ → ℕ → List ℕ → SectionAddress → Result Bool Refusal
+visit_call im d v p = result_and (result_and (result_and (image_of im d) (room_of im v)) (word_of im p)) (Ok (seen im v p))

@@ -4,80 +4,48 @@ ghost use Rattle.std.specs.Prelude.{◌≡◌, true};
 ghost use Rattle.image.specs.Rules.{tables_sound};
 ghost use Rattle.executor.specs.Reply.{jumped, followed};
 
+use crate::judge::require_word;
 use crate::stepping::drop;
-use crate::{Answer, ExecCbResult, Execution, Phase, Replied};
-use lookups::CodePlace;
+use crate::{ExecCbResult, Execution, Phase, Refusal};
 use places::SectionAddress;
 
-// Continue runs on at the next word, visited or not; a Jump at its word, or drops the run where that was visited; EndBlock and End
-// drop it. A Jump's place is judged: OtherSection (6), NotCode (2), Misaligned (3).
-pub fn follow(im: &[u32], map: &[u32], run: Execution, how: ExecCbResult) -> Replied
+// Continue runs on at the next word, visited or not; a Jump at its word, or drops the run where that was visited;
+// EndBlock and End drop it. A Jump's place is judged: OtherSection (6), NotCode (2), Misaligned (3).
+pub fn follow(
+    im: &[u32],
+    map: &[u32],
+    run: Execution,
+    how: ExecCbResult,
+) -> Result<Execution, Refusal>
     requires { tables_sound im.now ≡ true }
     ensures { result ≡ followed im.now map.now run how }
 {
     match how {
-        ExecCbResult::Continue => {
-            let start = run.block_start;
-            let s = run.vm;
-            Replied {
-                answer: Answer::Done,
-                run: Execution {
-                    phase: Phase::Running,
-                    at: places::offset(run.at, 4),
-                    block_start: start,
-                    vm: s,
-                },
-            }
-        }
+        ExecCbResult::Continue => Ok(Execution {
+            phase: Phase::Running,
+            at: places::offset(run.at, 4),
+            ..run
+        }),
         ExecCbResult::Jump(q) => jump(im, map, run, q),
-        ExecCbResult::EndBlock => Replied {
-            answer: Answer::Done,
-            run: drop(run),
-        },
-        ExecCbResult::End => Replied {
-            answer: Answer::Done,
-            run: drop(run),
-        },
+        ExecCbResult::EndBlock | ExecCbResult::End => Ok(drop(run)),
     }
 }
 
-fn jump(im: &[u32], map: &[u32], run: Execution, q: SectionAddress) -> Replied
+fn jump(im: &[u32], map: &[u32], run: Execution, q: SectionAddress) -> Result<Execution, Refusal>
     requires { tables_sound im.now ≡ true }
     ensures { result ≡ jumped im.now map.now run q }
 {
-    let at = run.at;
-    if q.section != at.section {
-        return Replied {
-            answer: Answer::OtherSection,
-            run: run,
-        };
+    if q.section != run.at.section {
+        return Err(Refusal::OtherSection);
     }
-    match lookups::code_place(im, q) {
-        CodePlace::NotCode => Replied {
-            answer: Answer::NotCode,
-            run: run,
-        },
-        CodePlace::Misaligned => Replied {
-            answer: Answer::Misaligned,
-            run: run,
-        },
-        CodePlace::Fine => {
-            if visited::contains(map, lookups::word_number(im, q)) {
-                return Replied {
-                    answer: Answer::Done,
-                    run: drop(run),
-                };
-            }
-            let s = run.vm;
-            Replied {
-                answer: Answer::Done,
-                run: Execution {
-                    phase: Phase::Running,
-                    at: q,
-                    block_start: q,
-                    vm: s,
-                },
-            }
-        }
+    require_word(im, q)?;
+    if visited::contains(map, lookups::word_number(im, q)) {
+        return Ok(drop(run));
     }
+    Ok(Execution {
+        phase: Phase::Running,
+        at: q,
+        block_start: q,
+        vm: run.vm,
+    })
 }

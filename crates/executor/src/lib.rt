@@ -1,5 +1,6 @@
-// Branched execution, one instruction at a time: executor.rs with its callback turned into two calls, `next` and `reply`.
-// The caller keeps the stack's words and count, the visited map and the execution, and hands them to each call: any will do.
+// Branched execution, one instruction at a time: executor.rs with its callback turned into two calls, `next` and
+// `reply`. The caller keeps the stack's words and count, the visited map and the execution, and hands them to each
+// call: any will do. They stay parameters of their own, as a call lends some to read and some to write.
 #![tactic(auto)]
 
 pub mod following;
@@ -7,16 +8,15 @@ pub mod judge;
 pub mod stepping;
 
 ghost use Rattle.std.specs.Prelude.{◌≡◌, length};
-ghost use Rattle.executor.specs.Next.{next_call, handed_by};
+ghost use Rattle.executor.specs.Standing.{at_rest, refusal_number};
+ghost use Rattle.executor.specs.Next.{next_call, AnsweredBy};
 ghost use Rattle.executor.specs.Reply.{reply_call};
 ghost use Rattle.executor.specs.Push.{PushesTo};
 ghost use Rattle.executor.specs.Visits.{visit_call};
 
-use judge::judge;
-use lookups::CodePlace;
+use judge::{judge, require_image, require_room, require_word};
 use places::SectionAddress;
-use step::StepResult;
-use stepping::refused;
+use step::Stepped;
 use vm::VM;
 
 // Whether nothing is under way, the word at a place is to be stepped, or it was stepped and waits for a reply.
@@ -36,10 +36,27 @@ pub struct Execution {
     pub vm: VM,
 }
 
-// Document 01's numbers: 0, 1, 12, 4, 11, 6, 2, 3, 5.
-#[derive(Clone, Copy)]
-pub enum Answer {
-    Done,
+impl Execution {
+    // Nothing is under way.
+    pub fn idle() -> Execution
+        ensures { result ≡ at_rest }
+    {
+        let nowhere = SectionAddress {
+            section: 0,
+            address: 0,
+        };
+        Execution {
+            phase: Phase::Idle,
+            at: nowhere,
+            block_start: nowhere,
+            vm: vm::state::new(),
+        }
+    }
+}
+
+// Why a call is refused.
+#[derive(Clone, Copy, Debug, PartialEq, Eq)]
+pub enum Refusal {
     BrokenImage,
     BadStack,
     SmallMap,
@@ -50,28 +67,29 @@ pub enum Answer {
     StackFull,
 }
 
-// What judging image, stack and running place says.
-#[derive(Clone, Copy)]
-pub enum Verdict {
-    BrokenImage,
-    BadStack,
-    Lawful,
+// Document 01's numbers.
+impl From<Refusal> for u32 {
+    ghost from_gives = { λ why n. n ≡ refusal_number why };
+
+    fn from(why: Refusal) -> u32 {
+        match why {
+            Refusal::BrokenImage => 1,
+            Refusal::BadStack => 12,
+            Refusal::SmallMap => 4,
+            Refusal::OutOfTurn => 11,
+            Refusal::OtherSection => 6,
+            Refusal::NotCode => 2,
+            Refusal::Misaligned => 3,
+            Refusal::StackFull => 5,
+        }
+    }
 }
 
-// What `next` came to: a refusal, an end (nothing waits any more, or the run passed its section's end), or a stepped word.
-#[derive(Clone, Copy)]
-pub enum Outcome {
-    Refused(Answer),
-    Ended,
-    Stepped(StepResult),
-}
-
-// `run` is where the word stands and the state after it; `first` and `second` are the states of a Branch's two ways.
+// What `next` came to: the stepped word, whose place and the state after it stand in `run`, or None for an end (nothing
+// waits any more, or the run passed its section's end). `count` states wait then.
 #[derive(Clone, Copy)]
 pub struct Handed {
-    pub outcome: Outcome,
-    pub first: VM,
-    pub second: VM,
+    pub step: Option<Stepped>,
     pub run: Execution,
     pub count: usize,
 }
@@ -85,26 +103,8 @@ pub enum ExecCbResult {
     End,
 }
 
-#[derive(Clone, Copy)]
-pub struct Replied {
-    pub answer: Answer,
-    pub run: Execution,
-}
-
-#[derive(Clone, Copy)]
-pub struct Pushing {
-    pub answer: Answer,
-    pub count: usize,
-}
-
-#[derive(Clone, Copy)]
-pub struct Visit {
-    pub answer: Answer,
-    pub visited: bool,
-}
-
-// One state more on the stack, on top or, sorted, in its place. Refuses, touching nothing, in this order: BrokenImage (1),
-// BadStack (12), NotCode (2), Misaligned (3), StackFull (5).
+// One state more on the stack, on top or, sorted, in its place: how many wait then. Refuses, touching nothing, in this
+// order: BrokenImage (1), BadStack (12), NotCode (2), Misaligned (3), StackFull (5).
 pub fn push(
     im: &[u32],
     data: &[u8],
@@ -113,48 +113,17 @@ pub fn push(
     p: SectionAddress,
     s: VM,
     sorted: bool,
-) -> Pushing
+) -> Result<usize, Refusal>
     ensures { PushesTo im.now (length «data».now) stack.old count p s sorted result stack.new }
 {
-    match judge(im, data, stack, count, Phase::Idle, p) {
-        Verdict::BrokenImage => Pushing {
-            answer: Answer::BrokenImage,
-            count: count,
-        },
-        Verdict::BadStack => Pushing {
-            answer: Answer::BadStack,
-            count: count,
-        },
-        Verdict::Lawful => match lookups::code_place(im, p) {
-            CodePlace::NotCode => Pushing {
-                answer: Answer::NotCode,
-                count: count,
-            },
-            CodePlace::Misaligned => Pushing {
-                answer: Answer::Misaligned,
-                count: count,
-            },
-            CodePlace::Fine => {
-                let pushed = stack::push_state(stack, count, p, s, sorted);
-                let n = pushed.count;
-                if pushed.taken {
-                    return Pushing {
-                        answer: Answer::Done,
-                        count: n,
-                    };
-                }
-                Pushing {
-                    answer: Answer::StackFull,
-                    count: n,
-                }
-            }
-        },
-    }
+    judge(im, data, stack, count, Phase::Idle, p)?;
+    require_word(im, p)?;
+    stack::push_state(stack, count, p, s, sorted).ok_or(Refusal::StackFull)
 }
 
 // The next word of a run, or of the highest unvisited state on the stack: marked, stepped, and waiting for a reply.
-// Refuses, touching nothing, in this order: BrokenImage (1), BadStack (12), SmallMap (4: fewer than W bits), OutOfTurn (11:
-// an instruction waits). Ended leaves an empty stack, or after a run past its section's end the stack as it was.
+// Refuses, touching nothing, in this order: BrokenImage (1), BadStack (12), SmallMap (4: fewer than W bits), OutOfTurn
+// (11: an instruction waits). An end leaves an empty stack, or after a run past its section's end the stack as it was.
 pub fn next(
     im: &[u32],
     data: &[u8],
@@ -162,29 +131,21 @@ pub fn next(
     stack: &[u32],
     count: usize,
     run: Execution,
-) -> Handed
-    ensures { (result ≡ handed_by (next_call im.now «data».now stack.now count map.old run)) × (map.new ≡ (next_call im.now «data».now stack.now count map.old run).then.map) }
+) -> Result<Handed, Refusal>
+    ensures { AnsweredBy (next_call im.now «data».now stack.now count map.old run) result map.new }
 {
-    let phase = run.phase;
-    match judge(im, data, stack, count, phase, run.at) {
-        Verdict::BrokenImage => refused(Answer::BrokenImage, count, run),
-        Verdict::BadStack => refused(Answer::BadStack, count, run),
-        Verdict::Lawful => {
-            if !visited::has_room(map, image::code::code_words(im)) {
-                return refused(Answer::SmallMap, count, run);
-            }
-            match phase {
-                Phase::Waiting => refused(Answer::OutOfTurn, count, run),
-                Phase::Running => stepping::resume(im, data, map, count, run),
-                Phase::Idle => stepping::pop(im, data, map, stack, count, run),
-            }
-        }
+    judge(im, data, stack, count, run.phase, run.at)?;
+    require_room(im, map)?;
+    match run.phase {
+        Phase::Waiting => Err(Refusal::OutOfTurn),
+        Phase::Running => Ok(stepping::resume(im, data, map, count, run)),
+        Phase::Idle => Ok(stepping::pop(im, data, map, stack, count, run)),
     }
 }
 
-// What is under way after the caller's wish for the waiting instruction, whose state the caller may have changed. Refuses,
-// with the instruction still waiting, in this order: BrokenImage (1), BadStack (12), SmallMap (4), OutOfTurn (11: none
-// waits), and a Jump with OtherSection (6), NotCode (2), Misaligned (3).
+// What is under way after the caller's wish for the waiting instruction, whose state the caller may have changed.
+// Refuses, with the instruction still waiting, in this order: BrokenImage (1), BadStack (12), SmallMap (4), OutOfTurn
+// (11: none waits), and a Jump with OtherSection (6), NotCode (2), Misaligned (3).
 pub fn reply(
     im: &[u32],
     data: &[u8],
@@ -193,71 +154,24 @@ pub fn reply(
     count: usize,
     run: Execution,
     how: ExecCbResult,
-) -> Replied
+) -> Result<Execution, Refusal>
     ensures { result ≡ reply_call im.now (length «data».now) stack.now count map.now run how }
 {
-    let phase = run.phase;
-    match judge(im, data, stack, count, phase, run.at) {
-        Verdict::BrokenImage => Replied {
-            answer: Answer::BrokenImage,
-            run: run,
-        },
-        Verdict::BadStack => Replied {
-            answer: Answer::BadStack,
-            run: run,
-        },
-        Verdict::Lawful => {
-            if !visited::has_room(map, image::code::code_words(im)) {
-                return Replied {
-                    answer: Answer::SmallMap,
-                    run: run,
-                };
-            }
-            match phase {
-                Phase::Idle => Replied {
-                    answer: Answer::OutOfTurn,
-                    run: run,
-                },
-                Phase::Running => Replied {
-                    answer: Answer::OutOfTurn,
-                    run: run,
-                },
-                Phase::Waiting => following::follow(im, map, run, how),
-            }
-        }
+    judge(im, data, stack, count, run.phase, run.at)?;
+    require_room(im, map)?;
+    match run.phase {
+        Phase::Idle | Phase::Running => Err(Refusal::OutOfTurn),
+        Phase::Waiting => following::follow(im, map, run, how),
     }
 }
 
-// Whether the word at a place was visited. Refuses, in this order: BrokenImage (1), SmallMap (4), NotCode (2), Misaligned (3).
-pub fn visited(im: &[u32], data: &[u8], map: &[u32], p: SectionAddress) -> Visit
+// Whether the word at a place was visited. Refuses, in this order: BrokenImage (1), SmallMap (4), NotCode (2),
+// Misaligned (3).
+pub fn visited(im: &[u32], data: &[u8], map: &[u32], p: SectionAddress) -> Result<bool, Refusal>
     ensures { result ≡ visit_call im.now (length «data».now) map.now p }
 {
-    match image::check_image(im, data) {
-        image::Judged::Broken => Visit {
-            answer: Answer::BrokenImage,
-            visited: false,
-        },
-        image::Judged::Sound => {
-            if !visited::has_room(map, image::code::code_words(im)) {
-                return Visit {
-                    answer: Answer::SmallMap,
-                    visited: false,
-                };
-            }
-            match lookups::code_place(im, p) {
-                CodePlace::NotCode => Visit {
-                    answer: Answer::NotCode,
-                    visited: false,
-                },
-                CodePlace::Misaligned => Visit {
-                    answer: Answer::Misaligned,
-                    visited: false,
-                },
-                CodePlace::Fine => Visit {
-                    answer: Answer::Done,
-                    visited: visited::contains(map, lookups::word_number(im, p)),
-                },
-            }
-        }
-    }
+    require_image(im, data)?;
+    require_room(im, map)?;
+    require_word(im, p)?;
+    Ok(visited::contains(map, lookups::word_number(im, p)))
 }

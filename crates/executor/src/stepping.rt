@@ -5,74 +5,39 @@ ghost use Rattle.words.specs.Choice.{pick};
 ghost use Rattle.image.specs.Rules.{tables_sound, data_inside};
 ghost use Rattle.stack.specs.Stack.{Stack, entries};
 ghost use Rattle.executor.specs.Judge.{is_word, all_words};
-ghost use Rattle.executor.specs.Next.{Tops, is_branch, ended_at, refused_at, stepped_at, resumed, popped, handed_with, handed_by};
+ghost use Rattle.executor.specs.Next.{Tops, is_branch, ended_at, stepped_at, resumed, popped, handed_with, AnsweredWith, AnsweredBy};
 ghost use Rattle.executor.specs.Standing.{standing, dropped};
 
 use crate::judge::is_word;
-use crate::{Answer, Execution, Handed, Outcome, Phase};
+use crate::{Execution, Handed, Phase};
 use places::SectionAddress;
 use step::StepResult;
 use vm::VM;
-
-pub fn refused(why: Answer, count: usize, run: Execution) -> Handed
-    ensures { result ≡ handed_with (refused_at why (standing [] [] run)) count }
-{
-    let s = run.vm;
-    Handed {
-        outcome: Outcome::Refused(why),
-        first: s,
-        second: s,
-        run: run,
-        count: count,
-    }
-}
 
 // What was under way is no more: its place and state stay behind, and nothing reads them.
 pub fn drop(run: Execution) -> Execution
     ensures { result ≡ dropped run }
 {
-    let at = run.at;
-    let start = run.block_start;
-    let s = run.vm;
     Execution {
         phase: Phase::Idle,
-        at: at,
-        block_start: start,
-        vm: s,
+        ..run
     }
 }
 
 fn ended(count: usize, run: Execution) -> Handed
-    ensures { result ≡ handed_with (ended_at [] [] run) count }
+    ensures { Ok result ≡ handed_with (ended_at [] [] run) count }
 {
-    let s = run.vm;
     Handed {
-        outcome: Outcome::Ended,
-        first: s,
-        second: s,
+        step: None,
         run: drop(run),
-        count: count,
+        count,
     }
 }
 
 fn is_branch(r: StepResult) -> bool
     ensures { result ≡ is_branch r }
 {
-    match r {
-        StepResult::Continue => false,
-        StepResult::LoadStore {
-            address: _,
-            source: _,
-            source_reg: _,
-        } => false,
-        StepResult::Illegal => false,
-        StepResult::Jump(_) => false,
-        StepResult::Branch {
-            first: _,
-            second: _,
-        } => true,
-        StepResult::Refused(_) => false,
-    }
+    matches!(r, StepResult::Branch { .. })
 }
 
 // The state that the next word goes on from: a Branch leaves the one that it met.
@@ -93,38 +58,29 @@ fn step_at(
     s: VM,
 ) -> Handed
     requires { (tables_sound im.now ≡ true) × (data_inside im.now (length bytes.now) ≡ true) × (is_word im.now at ≡ true) }
-    ensures { (result ≡ handed_with (stepped_at im.now bytes.now [] map.old at start s) count) × (map.new ≡ (stepped_at im.now bytes.now [] map.old at start s).then.map) }
+    ensures { AnsweredWith (stepped_at im.now bytes.now [] map.old at start s) count (Ok result) map.new }
 {
     visited::insert(map, lookups::word_number(im, at));
     let stepped = step::done::step_word(im, at, lookups::code_word(im, bytes, at), s);
-    let result = stepped.result;
-    let first = stepped.vm;
-    let second = stepped.other;
-    let run = Execution {
-        phase: Phase::Waiting,
-        at: at,
-        block_start: start,
-        vm: state_after(result, s, first),
-    };
     Handed {
-        outcome: Outcome::Stepped(result),
-        first: first,
-        second: second,
-        run: run,
-        count: count,
+        step: Some(stepped),
+        run: Execution {
+            phase: Phase::Waiting,
+            at,
+            block_start: start,
+            vm: state_after(stepped.result, s, stepped.vm),
+        },
+        count,
     }
 }
 
 // A run goes on at its word; past its section's end it is dropped, and nothing is popped.
 pub fn resume(im: &[u32], bytes: &[u8], map: &mut [u32], count: usize, run: Execution) -> Handed
     requires { (tables_sound im.now ≡ true) × (data_inside im.now (length bytes.now) ≡ true) }
-    ensures { (result ≡ handed_with (resumed im.now bytes.now (standing [] map.old run)) count) × (map.new ≡ (resumed im.now bytes.now (standing [] map.old run)).then.map) }
+    ensures { AnsweredWith (resumed im.now bytes.now (standing [] map.old run)) count (Ok result) map.new }
 {
-    let at = run.at;
-    if is_word(im, at) {
-        let start = run.block_start;
-        let s = run.vm;
-        return step_at(im, bytes, map, count, at, start, s);
+    if is_word(im, run.at) {
+        return step_at(im, bytes, map, count, run.at, run.block_start, run.vm);
     }
     ended(count, run)
 }
@@ -134,13 +90,10 @@ fn highest(im: &[u32], map: &[u32], stack: &[u32], count: usize) -> usize
     requires { (tables_sound im.now ≡ true) × Stack stack.now count × (all_words im.now (entries stack.now count) ≡ true) }
     ensures { Tops im.now map.now stack.now count result }
 {
-    let mut n = count;
-    while 0 < n {
-        let p = stack::top_place(stack, n);
-        if visited::contains(map, lookups::word_number(im, p)) {
-            n = n - 1;
-        } else {
-            return n;
+    for i in (0..count).rev() {
+        let p = stack::held_place(stack, count, i);
+        if !visited::contains(map, lookups::word_number(im, p)) {
+            return i + 1;
         }
     }
     0
@@ -156,7 +109,7 @@ pub fn pop(
     run: Execution,
 ) -> Handed
     requires { (tables_sound im.now ≡ true) × (data_inside im.now (length bytes.now) ≡ true) × Stack stack.now count × (all_words im.now (entries stack.now count) ≡ true) }
-    ensures { (result ≡ handed_by (popped im.now bytes.now (standing (entries stack.now count) map.old run))) × (map.new ≡ (popped im.now bytes.now (standing (entries stack.now count) map.old run)).then.map) }
+    ensures { AnsweredBy (popped im.now bytes.now (standing (entries stack.now count) map.old run)) (Ok result) map.new }
 {
     let n = highest(im, map, stack, count);
     if n == 0 {

@@ -1,11 +1,11 @@
-// What a call of the executor costs at depth 3,000, by the first byte of standard input: a 3,000 states are pushed, b and `next` steps
-// the highest, c and a reply ends its block. Prints a letter for the outcome.
+// What a call of the executor costs at depth 3,000, by the first byte of standard input: a 3,000 states are pushed, b
+// and `next` steps the highest, c and a reply ends its block. Prints a letter for the outcome.
 #![tactic(auto)]
 
 ghost use Rattle.std.specs.Prelude.{◌≡◌, ◌<◌, length};
 ghost use Rattle.stack.specs.Stack.{Stack};
 
-use executor::{Answer, ExecCbResult, Execution, Outcome, Phase};
+use executor::{ExecCbResult, Execution, Refusal};
 use places::SectionAddress;
 use std::io;
 use std::io::Read;
@@ -38,11 +38,8 @@ fn fill(words: &mut [u32], s: VM) -> usize
     ensures { Stack words.new result }
 {
     let mut n: usize = 0;
-    let mut i: usize = 0;
-    while i < 3000 {
-        let r = stack::push_state(words, n, place(i), s, true);
-        n = r.count;
-        i = i + 1;
+    for i in 0..3000 {
+        n = stack::push_state(words, n, place(i), s, true).unwrap_or(n);
     }
     n
 }
@@ -53,46 +50,23 @@ fn start() -> VM {
     s
 }
 
-// Nothing runs.
-fn idle() -> Execution {
-    let p = SectionAddress {
-        section: 0,
-        address: 0,
-    };
-    Execution {
-        phase: Phase::Idle,
-        at: p,
-        block_start: p,
-        vm: vm::state::new(),
-    }
-}
-
-fn stepped(o: Outcome) -> u8 {
-    match o {
-        Outcome::Refused(_) => b'r',
-        Outcome::Ended => b'e',
-        Outcome::Stepped(_) => b's',
-    }
-}
-
-fn replied(a: Answer) -> u8 {
-    match a {
-        Answer::Done => b'd',
-        _ => b'r',
-    }
-}
-
-fn next(words: &[u32], n: usize, map: &mut [u32], code: &[u8], mode: u8) -> u8 {
+// r for a refusal, e for an end, s for a step, d for a reply.
+fn next(words: &[u32], n: usize, map: &mut [u32], code: &[u8], mode: u8) -> Result<u8, Refusal> {
     let im = [0, 0, 1, 0, 0, 0, 4096, 12000, 0, 0, 0, 12000];
-    let h = executor::next(&im, code, map, words, n, idle());
+    let h = executor::next(&im, code, map, words, n, Execution::idle())?;
     if mode == b'b' {
-        let o = h.outcome;
-        return stepped(o);
+        return Ok(if h.step.is_some() { b's' } else { b'e' });
     }
-    let e = h.run;
-    let r = executor::reply(&im, code, map, words, h.count, e, ExecCbResult::EndBlock);
-    let a = r.answer;
-    replied(a)
+    executor::reply(
+        &im,
+        code,
+        map,
+        words,
+        h.count,
+        h.run,
+        ExecCbResult::EndBlock,
+    )?;
+    Ok(b'd')
 }
 
 fn asked(words: &[u32], n: usize, code: &[u8], mode: u8) -> u8 {
@@ -100,7 +74,7 @@ fn asked(words: &[u32], n: usize, code: &[u8], mode: u8) -> u8 {
     if mode == b'a' {
         return b'n';
     }
-    next(words, n, &mut map, code, mode)
+    next(words, n, &mut map, code, mode).unwrap_or(b'r')
 }
 
 fn main(rt: HostRuntime) -> io::Result<()> {

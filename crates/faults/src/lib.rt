@@ -13,10 +13,8 @@ use image::head::{is_counted, is_kind_known, laid_out};
 use image::sections::{data_inside, sections_apart, sections_sound};
 
 // The rules, in the order in which they are judged.
-#[derive(Clone, Copy)]
+#[derive(Clone, Copy, PartialEq, Eq, Debug)]
 pub enum Rule {
-    // None is broken.
-    Sound,
     // The words are as many as the head says.
     Words,
     // 1 to 64 sections, at most 4,096 entries in each further table.
@@ -45,76 +43,76 @@ pub enum Rule {
     Data,
 }
 
-// The first rule that an image of so many data bytes breaks, or Sound, exactly where `check_image` says so.
+// The first rule that an image of so many data bytes breaks, or None, exactly where `check_image` calls it sound.
 #[tactic(auto, unfolding(crate::specs::Faults::broken_rule))]
-pub fn broken_rule(im: &[u32], bytes: usize) -> Rule
+pub fn broken_rule(im: &[u32], bytes: usize) -> Option<Rule>
     ensures { result ≡ broken_rule im.now bytes }
 {
     if !laid_out(im) {
-        return Rule::Words;
+        return Some(Rule::Words);
     }
     if !is_counted(im) {
-        return Rule::Counts;
+        return Some(Rule::Counts);
     }
     section_rule(im, bytes)
 }
 
 // From the image's kind and its sections on.
 #[tactic(auto, unfolding(crate::specs::Faults::section_rule))]
-fn section_rule(im: &[u32], bytes: usize) -> Rule
+fn section_rule(im: &[u32], bytes: usize) -> Option<Rule>
     requires { Laid im.now }
     ensures { result ≡ section_rule im.now bytes }
 {
     if !is_kind_known(im) {
-        return Rule::Kind;
+        return Some(Rule::Kind);
     }
     if !sections_sound(im) {
-        return Rule::Sections;
+        return Some(Rule::Sections);
     }
     if !elf_distinct(im) {
-        return Rule::ElfNumbers;
+        return Some(Rule::ElfNumbers);
     }
     if !sections_apart(im) {
-        return Rule::Overlaps;
+        return Some(Rule::Overlaps);
     }
     if !few_code_words(im) {
-        return Rule::CodeWords;
+        return Some(Rule::CodeWords);
     }
     table_rule(im, bytes)
 }
 
 // From the further tables on.
 #[tactic(auto, unfolding(crate::specs::Faults::table_rule))]
-fn table_rule(im: &[u32], bytes: usize) -> Rule
+fn table_rule(im: &[u32], bytes: usize) -> Option<Rule>
     requires { Laid im.now }
     ensures { result ≡ table_rule im.now bytes }
 {
     if !bounds_sound(im) {
-        return Rule::Bounds;
+        return Some(Rule::Bounds);
     }
     if !bounds_ascend(im) {
-        return Rule::BoundOrder;
+        return Some(Rule::BoundOrder);
     }
     if !unbounds_sound(im) {
-        return Rule::Unbounds;
+        return Some(Rule::Unbounds);
     }
     symbol_rule(im, bytes)
 }
 
 // The object symbols and the data.
 #[tactic(auto, unfolding(crate::specs::Faults::symbol_rule))]
-fn symbol_rule(im: &[u32], bytes: usize) -> Rule
+fn symbol_rule(im: &[u32], bytes: usize) -> Option<Rule>
     requires { Laid im.now }
     ensures { result ≡ symbol_rule im.now bytes }
 {
     if !symbols_sound(im) {
-        return Rule::Symbols;
+        return Some(Rule::Symbols);
     }
     if !symbols_ascend(im) {
-        return Rule::SymbolOrder;
+        return Some(Rule::SymbolOrder);
     }
     if !data_inside(im, bytes) {
-        return Rule::Data;
+        return Some(Rule::Data);
     }
-    Rule::Sound
+    None
 }

@@ -3,8 +3,8 @@
 use Prim.Native.Nat.{ℕ}
 use mathlib.Core.List.{List, [], ◌∷◌}
 use mathlib.Core.Path.{◌≡◌, refl, sym, ◌∙◌}
-use Rattle.turns.specs.declared.WalkAnswer.{WalkAnswer}
-use Rattle.turns.specs.declared.WalkAnswer.TheVariants as answer
+use Rattle.std.specs.Prelude.{⊤, Result, Ok, Err}
+use Rattle.turns.specs.declared.WalkError.{WalkError}
 use Rattle.turns.specs.Walks.{Given, given, judged, walked, answer_of}
 use Rattle.walk.specs.Starts.{places_of}
 use Rattle.gelruptai.specs.Given.{base_in, place_in, maybe_in}
@@ -19,18 +19,14 @@ module _ (ws bs starts g vis stack entries : List ℕ) where
   one_handed h k a b = sym a ∙ b
 
   -- 1, 4, 2, 3
-  abbrev refused_as : WalkAnswer → Handed
+  abbrev refused_as : Result ⊤ WalkError → Handed
   refused_as a = record { answer = answer_of a; counts = 0 ∷ 0 ∷ 0 ∷ 0 ∷ 0 ∷ []; map = vis; stack = stack; entries = entries }
 
-  pub refused_touches_nothing : (h : Handed) → walk_on ws bs starts g vis stack entries ≡ h → (judged asked vis ≡ answer.Done → ⊥)
+  pub refused_touches_nothing : (h : Handed) → walk_on ws bs starts g vis stack entries ≡ h → (judged asked vis ≡ Ok tt → ⊥)
       → h ≡ refused_as (judged asked vis)
   unfolding walked
   refused_touches_nothing h allowed no_Walk = by (judged asked vis) refl
     where
-      by : (a : WalkAnswer) → judged asked vis ≡ a → h ≡ refused_as (judged asked vis)
-      by answer.Done e = absurd (no_Walk e)
-      by answer.BrokenImage e = sym allowed ∙ rw e
-      by answer.NotCode e = sym allowed ∙ rw e
-      by answer.Misaligned e = sym allowed ∙ rw e
-      by answer.MapTooSmall e = sym allowed ∙ rw e
-      by answer.StackFull e = sym allowed ∙ rw e
+      by : (a : Result ⊤ WalkError) → judged asked vis ≡ a → h ≡ refused_as (judged asked vis)
+      by (Ok u) e = absurd (no_Walk e)
+      by (Err x) e = sym allowed ∙ rw e

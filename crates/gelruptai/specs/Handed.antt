@@ -1,14 +1,15 @@
 -- What a call hands back, in the buffers that it was lent.
 -- Assumes nothing.
-use Rattle.std.specs.Prelude.{ℕ, ◌+◌, ◌*◌, List, [], ◌∷◌}
+use Rattle.std.specs.Prelude.{ℕ, ◌+◌, ◌*◌, List, [], ◌∷◌, Result, Ok, Err}
 use Rattle.slot.specs.Layout.{slot_size}
 use Rattle.turns.specs.declared.Walked.{Walked}
 use Rattle.turns.specs.Walks.{Leaves, given, walked, answer_of}
 use Rattle.walk.specs.Starts.{places_of}
 use Rattle.jump_tables.specs.declared.Table.{Table}
-use Rattle.jump_tables.specs.Tables.{Outcome, table_of}
-use Rattle.image_file.specs.declared.Parsed.{Parsed}
-use Rattle.image_file.specs.declared.Parsed.TheVariants.{Bad, File}
+use Rattle.jump_tables.specs.declared.TableError.{TableError}
+use Rattle.jump_tables.specs.Tables.{Outcome, count_of, bytes_of, table_of}
+use Rattle.image_file.specs.declared.Fault.{Fault}
+use Rattle.image_file.specs.declared.Head.{Head}
 use Rattle.image_file.specs.Reading.{data_from}
 use Rattle.gelruptai.specs.Given.{base_in, place_in, maybe_in, given_words}
 
@@ -51,14 +52,14 @@ table_on ws bs section address size g entries =
     table_of ws bs (record { section = section; address = address }) size (place_in g 4) (maybe_in g 6) entries
 
 -- entries, bytes passed
-abbrev pub table_counts : Table → List ℕ
-table_counts t = t.count ∷ t.size ∷ []
+abbrev pub table_counts : Result Table TableError → List ℕ
+table_counts t = count_of t ∷ bytes_of t ∷ []
 
 -- a file's nine words, and: image words, starts, where the data begins, data bytes; or where something is wrong
-abbrev pub file_given : Parsed → List ℕ → List ℕ
-file_given (Bad w at) g = g
-file_given (File h) g = given_words h
+abbrev pub file_given : Result Head Fault → List ℕ → List ℕ
+file_given (Err f) g = g
+file_given (Ok h) g = given_words h
 
-abbrev pub file_counts : List ℕ → Parsed → List ℕ
-file_counts bs (Bad w at) = at ∷ 0 ∷ 0 ∷ 0 ∷ []
-file_counts bs (File h) = h.words ∷ h.starts ∷ data_from bs ∷ h.bytes ∷ []
+abbrev pub file_counts : List ℕ → Result Head Fault → List ℕ
+file_counts bs (Err f) = f.at ∷ 0 ∷ 0 ∷ 0 ∷ []
+file_counts bs (Ok h) = h.words ∷ h.starts ∷ data_from bs ∷ h.bytes ∷ []

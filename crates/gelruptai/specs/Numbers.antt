@@ -1,49 +1,43 @@
 -- Answers as numbers. Those of a walk and of reports are `answer_of`, `write_number` and `read_number` of their own crates.
 -- Assumes nothing.
-use Rattle.std.specs.Prelude.{ℕ}
+use Rattle.std.specs.Prelude.{ℕ, Option, Some, None, Result, Ok, Err}
 use Rattle.faults.specs.declared.Rule.{Rule}
 use Rattle.faults.specs.declared.Rule.TheVariants as rule
-use Rattle.jump_tables.specs.declared.TableAnswer.{TableAnswer}
-use Rattle.jump_tables.specs.declared.TableAnswer.TheVariants as answer
-use Rattle.report.specs.declared.Wrote.{Wrote}
-use Rattle.report.specs.declared.Wrote.TheVariants as wrote
+use Rattle.jump_tables.specs.declared.Table.{Table}
+use Rattle.jump_tables.specs.declared.TableError.{TableError}
+use Rattle.jump_tables.specs.Tables.{error_number}
+use Rattle.report.specs.declared.WriteError.{WriteError}
 use Rattle.image_file.specs.declared.Wrong.{Wrong}
 use Rattle.image_file.specs.declared.Wrong.TheVariants as wrong
-use Rattle.image_file.specs.declared.Parsed.{Parsed}
-use Rattle.image_file.specs.declared.Parsed.TheVariants.{Bad, File}
+use Rattle.image_file.specs.declared.Fault.{Fault}
+use Rattle.image_file.specs.declared.Head.{Head}
 
--- the image rules, in the order in which they are judged
-abbrev pub rule_number : Rule → ℕ
-rule_number rule.Sound = 0
-rule_number rule.Words = 1
-rule_number rule.Counts = 2
-rule_number rule.Kind = 3
-rule_number rule.Sections = 4
-rule_number rule.ElfNumbers = 5
-rule_number rule.Overlaps = 6
-rule_number rule.CodeWords = 7
-rule_number rule.Bounds = 8
-rule_number rule.BoundOrder = 9
-rule_number rule.Unbounds = 10
-rule_number rule.Symbols = 11
-rule_number rule.SymbolOrder = 12
-rule_number rule.Data = 13
+-- the image rule that is broken first, by the order in which they are judged, or none
+abbrev pub rule_number : Option Rule → ℕ
+rule_number None = 0
+rule_number (Some rule.Words) = 1
+rule_number (Some rule.Counts) = 2
+rule_number (Some rule.Kind) = 3
+rule_number (Some rule.Sections) = 4
+rule_number (Some rule.ElfNumbers) = 5
+rule_number (Some rule.Overlaps) = 6
+rule_number (Some rule.CodeWords) = 7
+rule_number (Some rule.Bounds) = 8
+rule_number (Some rule.BoundOrder) = 9
+rule_number (Some rule.Unbounds) = 10
+rule_number (Some rule.Symbols) = 11
+rule_number (Some rule.SymbolOrder) = 12
+rule_number (Some rule.Data) = 13
 
 -- document 01's numbers of a table's refusals
-abbrev pub table_number : TableAnswer → ℕ
-table_number answer.Broken = 1
-table_number answer.RelocationError = 7
-table_number answer.Ragged = 8
-table_number answer.PointsNowhere = 9
-table_number answer.Full = 10
-table_number answer.Read = 0
+abbrev pub table_number : Result Table TableError → ℕ
+table_number (Ok t) = 0
+table_number (Err e) = error_number e
 
 -- a report's length, 0 where none was written
-abbrev pub length_of : Wrote → ℕ
-length_of wrote.BrokenImage = 0
-length_of wrote.SmallMap = 0
-length_of wrote.NoRoom = 0
-length_of (wrote.Bytes k) = k
+abbrev pub length_of : Result ℕ WriteError → ℕ
+length_of (Ok k) = k
+length_of (Err e) = 0
 
 -- what is wrong with a file, in the order of docs/FORMATS.md
 abbrev pub wrong_number : Wrong → ℕ
@@ -57,6 +51,6 @@ wrong_number wrong.Trailing = 7
 wrong_number wrong.WordsRoom = 8
 wrong_number wrong.StartsRoom = 9
 
-abbrev pub file_number : Parsed → ℕ
-file_number (Bad w at) = wrong_number w
-file_number (File h) = 0
+abbrev pub file_number : Result Head Fault → ℕ
+file_number (Err f) = wrong_number f.wrong
+file_number (Ok h) = 0

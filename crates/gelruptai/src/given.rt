@@ -4,19 +4,18 @@ ghost use Rattle.std.specs.Prelude.{◌≡◌, ◌<◌, ◌+◌};
 ghost use Rattle.gelruptai.specs.Given.{base_in, place_in, maybe_in, base_words, maybe_words, given_words};
 
 use image_file::Head;
-use places::{MaybeAddress, SectionAddress};
-use vm::MaybeBase;
+use places::SectionAddress;
 
 pub const GIVEN: usize = 9;
 
-pub(crate) fn base_in(g: &[u32; GIVEN], k: usize) -> MaybeBase
+pub(crate) fn base_in(g: &[u32; GIVEN], k: usize) -> Option<u32>
     requires { k < 8 }
     ensures { result ≡ base_in g.now k }
 {
     if g[k] == 1 {
-        return MaybeBase::Value(g[k + 1]);
+        return Some(g[k + 1]);
     }
-    MaybeBase::Unset
+    None
 }
 
 pub(crate) fn place_in(g: &[u32; GIVEN], k: usize) -> SectionAddress
@@ -29,31 +28,31 @@ pub(crate) fn place_in(g: &[u32; GIVEN], k: usize) -> SectionAddress
     }
 }
 
-pub(crate) fn maybe_in(g: &[u32; GIVEN], k: usize) -> MaybeAddress
+pub(crate) fn maybe_in(g: &[u32; GIVEN], k: usize) -> Option<SectionAddress>
     requires { k < 7 }
     ensures { result ≡ maybe_in g.now k }
 {
     if g[k] == 1 {
-        return MaybeAddress::At(place_in(g, k + 1));
+        return Some(place_in(g, k + 1));
     }
-    MaybeAddress::Nowhere
+    None
 }
 
-fn base_words(b: MaybeBase) -> [u32; 2]
+fn base_words(b: Option<u32>) -> [u32; 2]
     ensures { result ≡ base_words b }
 {
     match b {
-        MaybeBase::Unset => [0, 0],
-        MaybeBase::Value(n) => [1, n],
+        None => [0, 0],
+        Some(n) => [1, n],
     }
 }
 
-fn maybe_words(p: MaybeAddress) -> [u32; 3]
+fn maybe_words(p: Option<SectionAddress>) -> [u32; 3]
     ensures { result ≡ maybe_words p }
 {
     match p {
-        MaybeAddress::Nowhere => [0, 0, 0],
-        MaybeAddress::At(a) => [1, a.section, a.address],
+        None => [0, 0, 0],
+        Some(a) => [1, a.section, a.address],
     }
 }
 

@@ -16,11 +16,8 @@ ghost use Rattle.gelruptai.specs.Handed.{walk_on, table_on, stack_words, table_c
 
 pub use given::GIVEN;
 use given::{base_in, maybe_in, place_in, words_of};
-use image::Judged;
-use image_file::Parsed;
-use numbers::{read_number, rule_number, table_number, walk_number, wrong_number};
+use numbers::{read_number, rule_number, table_number, walk_number, write_number, wrong_number};
 use places::SectionAddress;
-use report::Wrote;
 use slot::SLOT_WORDS;
 use walk::TABLE_ROOM;
 
@@ -36,8 +33,8 @@ pub fn gelruptai_code_words(im: &[u32], data: &[u8]) -> usize
     ensures { result ≡ pick (sound im.now (length «data».now)) (code_words im.now) 0 }
 {
     match image::check_image(im, data) {
-        Judged::Broken => 0,
-        Judged::Sound => image::code::code_words(im),
+        Err(_) => 0,
+        Ok(()) => image::code::code_words(im),
     }
 }
 
@@ -70,8 +67,7 @@ pub fn gelruptai_walk(
         im, data, starts, two, thirteen, from, upto, map, stack, entries,
     );
     *counts = [w.stepped, w.begun, w.read, w.not_read, w.held as u64];
-    let answer = w.answer;
-    walk_number(answer)
+    walk_number(w.answer)
 }
 
 // `jump_tables::uniq_jump_table_entries` for the table at a place: 0, 1, 7, 8, 9, 10. Of `given` the function's bounds are read.
@@ -86,7 +82,7 @@ pub fn gelruptai_table(
     entries: &mut [u64],
     counts: &mut [u64; 2],
 ) -> u32
-    ensures value { result ≡ table_number (table_on im.now «data».now section address size given.now entries.old).table.answer }
+    ensures value { result ≡ table_number (table_on im.now «data».now section address size given.now entries.old).table }
     ensures counts { counts.new ≡ table_counts (table_on im.now «data».now section address size given.now entries.old).table }
     ensures entries { entries.new ≡ (table_on im.now «data».now section address size given.now entries.old).keys }
 {
@@ -94,9 +90,8 @@ pub fn gelruptai_table(
     let upto = maybe_in(given, 6);
     let at = SectionAddress { section, address };
     let t = jump_tables::uniq_jump_table_entries(im, data, at, size, from, upto, entries);
-    *counts = [t.count as u64, t.size as u64];
-    let answer = t.answer;
-    table_number(answer)
+    *counts = numbers::table_counts(t);
+    table_number(t)
 }
 
 // `report::write_report`: 0, 1, 4, 10. `written` becomes the report's length, 0 where it is refused.
@@ -112,8 +107,8 @@ pub fn gelruptai_write_report(
     ensures out { out.new ≡ write_leaves im.now (length «data».now) map.now out.old }
 {
     let w = report::write_report(im, data, map, out);
-    *written = numbers::length_of(w);
-    numbers::write_number(w)
+    *written = w.unwrap_or(0);
+    write_number(w)
 }
 
 // `report::read_report`: 0, 1, 4, 13.
@@ -140,11 +135,11 @@ pub fn gelruptai_read_file(
     ensures counts { counts.new ≡ file_counts file.now (answered file.now (length im.old) (length starts.old)) }
 {
     match image_file::read_file(file, im, starts) {
-        Parsed::Bad(wrong, at) => {
-            *counts = [at as u64, 0, 0, 0];
-            wrong_number(wrong)
+        Err(fault) => {
+            *counts = [fault.at as u64, 0, 0, 0];
+            wrong_number(fault.wrong)
         }
-        Parsed::File(h) => {
+        Ok(h) => {
             let from = image_file::fields::data_from(file);
             *given = words_of(h);
             *counts = [h.words as u64, h.starts as u64, from as u64, h.bytes as u64];

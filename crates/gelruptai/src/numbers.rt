@@ -1,93 +1,80 @@
 // Answers as numbers: document 01's, and for broken rules and what is wrong with a file those of include/gelruptai.h.
+// Functions, no From: the header's numbers are this crate's, and the types are others'.
 ghost use Rattle.std.specs.Prelude.{◌≡◌};
 ghost use Rattle.turns.specs.Walks.{answer_of};
 ghost use Rattle.report.specs.Answers.{write_number, read_number};
-ghost use Rattle.gelruptai.specs.Numbers.{rule_number, table_number, wrong_number, length_of};
+ghost use Rattle.gelruptai.specs.Handed.{table_counts};
+ghost use Rattle.gelruptai.specs.Numbers.{rule_number, table_number, wrong_number};
 
 use faults::Rule;
 use image_file::Wrong;
-use jump_tables::TableAnswer;
-use report::{Done, Wrote};
-use turns::WalkAnswer;
+use jump_tables::{Table, TableError};
+use report::{ReadError, WriteError};
+use turns::WalkError;
 
-pub(crate) fn walk_number(a: WalkAnswer) -> u32
+pub(crate) fn walk_number(a: Result<(), WalkError>) -> u32
     ensures { result ≡ answer_of a }
 {
     match a {
-        WalkAnswer::Done => 0,
-        WalkAnswer::BrokenImage => 1,
-        WalkAnswer::NotCode => 2,
-        WalkAnswer::Misaligned => 3,
-        WalkAnswer::MapTooSmall => 4,
-        WalkAnswer::StackFull => 5,
+        Ok(_) => 0,
+        Err(e) => u32::from(e),
     }
 }
 
-pub(crate) fn table_number(a: TableAnswer) -> u32
-    ensures { result ≡ table_number a }
+pub(crate) fn table_number(t: Result<Table, TableError>) -> u32
+    ensures { result ≡ table_number t }
 {
-    match a {
-        TableAnswer::Broken => 1,
-        TableAnswer::RelocationError => 7,
-        TableAnswer::Ragged => 8,
-        TableAnswer::PointsNowhere => 9,
-        TableAnswer::Full => 10,
-        TableAnswer::Read => 0,
+    match t {
+        Ok(_) => 0,
+        Err(e) => u32::from(e),
     }
 }
 
-pub(crate) fn write_number(w: Wrote) -> u32
+pub(crate) fn table_counts(t: Result<Table, TableError>) -> [u64; 2]
+    ensures { result ≡ table_counts t }
+{
+    match t {
+        Ok(t) => [t.count as u64, t.size as u64],
+        Err(_) => [0, 0],
+    }
+}
+
+pub(crate) fn write_number(w: Result<usize, WriteError>) -> u32
     ensures { result ≡ write_number w }
 {
     match w {
-        Wrote::BrokenImage => 1,
-        Wrote::SmallMap => 4,
-        Wrote::NoRoom => 10,
-        Wrote::Bytes(_) => 0,
+        Ok(_) => 0,
+        Err(e) => u32::from(e),
     }
 }
 
-// The report's length, 0 where none was written.
-pub(crate) fn length_of(w: Wrote) -> usize
-    ensures { result ≡ length_of w }
+pub(crate) fn read_number(r: Result<(), ReadError>) -> u32
+    ensures { result ≡ read_number r }
 {
-    match w {
-        Wrote::BrokenImage => 0,
-        Wrote::SmallMap => 0,
-        Wrote::NoRoom => 0,
-        Wrote::Bytes(n) => n,
+    match r {
+        Ok(_) => 0,
+        Err(e) => u32::from(e),
     }
 }
 
-pub(crate) fn read_number(d: Done) -> u32
-    ensures { result ≡ read_number d }
-{
-    match d {
-        Done::BrokenImage => 1,
-        Done::SmallMap => 4,
-        Done::NoReport => 13,
-        Done::Done => 0,
-    }
-}
-
-pub(crate) fn rule_number(u: Rule) -> u32
+pub(crate) fn rule_number(u: Option<Rule>) -> u32
     ensures { result ≡ rule_number u }
 {
     match u {
-        Rule::Sound => 0,
-        Rule::Words => 1,
-        Rule::Counts => 2,
-        Rule::Kind => 3,
-        Rule::Sections => 4,
-        Rule::ElfNumbers => 5,
-        Rule::Overlaps => 6,
-        Rule::CodeWords => 7,
-        Rule::Bounds => 8,
-        Rule::BoundOrder => 9,
-        Rule::Unbounds => 10,
-        Rule::Symbols => 11,
-        Rule::SymbolOrder => 12,
-        Rule::Data => 13,
+        None => 0,
+        Some(Rule::Words) => 1,
+        Some(Rule::Counts) => 2,
+        Some(Rule::Kind) => 3,
+        Some(Rule::Sections) => 4,
+        Some(Rule::ElfNumbers) => 5,
+        Some(Rule::Overlaps) => 6,
+        Some(Rule::CodeWords) => 7,
+        Some(Rule::Bounds) => 8,
+        Some(Rule::BoundOrder) => 9,
+        Some(Rule::Unbounds) => 10,
+        Some(Rule::Symbols) => 11,
+        Some(Rule::SymbolOrder) => 12,
+        Some(Rule::Data) => 13,
     }
 }
 

@@ -69,7 +69,7 @@ pub extern "C" fn gelruptai_table(
     entries: &mut [u64],
     counts: &mut [u64; 2],
 ) -> u32
-    ensures value { result ≡ table_number (table_on im.now «data».now section address size given.now entries.old).table.answer }
+    ensures value { result ≡ table_number (table_on im.now «data».now section address size given.now entries.old).table }
     ensures counts { counts.new ≡ table_counts (table_on im.now «data».now section address size given.now entries.old).table }
     ensures entries { entries.new ≡ (table_on im.now «data».now section address size given.now entries.old).keys }
 {

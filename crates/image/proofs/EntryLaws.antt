@@ -1,5 +1,6 @@
 -- The rules on relocations and object symbols, at each index, as plain facts.
 -- Assumes nothing.
+use Rattle.std.specs.Prelude.{Option, Some, None}
 use mathlib.Core.Path.{◌≡◌, refl}
 use mathlib.Core.Bool.{Bool, true, false, ◌||◌}
 use mathlib.Core.List.{List, [], ◌∷◌}
@@ -10,8 +11,6 @@ use borrow.Author.Tests.{eq-eqb, leb-true, ltb-true, eqb-true}
 use Rattle.words.specs.Choice.{pick}
 use Rattle.places.specs.Places.{before}
 use Rattle.search.specs.First.{on_found}
-use Rattle.search.specs.declared.Found.{Found}
-use Rattle.search.specs.declared.Found.TheVariants.{At, Nothing}
 use Rattle.search.proofs.EveryLaws.{and_left, and_right, every_at}
 use Rattle.search.proofs.FirstMatch.{first_below}
 use Rattle.search.proofs.Conjunction.{chain_first, chain_at}
@@ -80,13 +79,13 @@ bounds_ordered ws t j k l m = ascends (bound_place ws) (bounds ws) j k t.bounds_
 pub record SoundUnbound (ws : List ℕ) (r : Unbound) : Type 0 where
   pub kind_known_lem : r.kind < 2
   pub index : ℕ
-  pub found : elf_index ws r.section ≡ At index
+  pub found : elf_index ws r.section ≡ Some index
   pub in_section : index < sections ws
   pub lies : Lies (section_at ws index) r.address r.kind
 
-by_found : (ws : List ℕ) (r : Unbound) (f : Found) → elf_index ws r.section ≡ f → r.kind < 2
+by_found : (ws : List ℕ) (r : Unbound) (f : Option ℕ) → elf_index ws r.section ≡ f → r.kind < 2
     → on_found f (λ (i : ℕ). lies_in (section_at ws i) r.address r.kind) false ≡ true → SoundUnbound ws r
-by_found ws r (At i) q k e =
+by_found ws r (Some i) q k e =
     record {
       kind_known_lem = k;
       index = i;
@@ -94,7 +93,7 @@ by_found ws r (At i) q k e =
       in_section = first_below (has_elf ws r.section) (sections ws) i q;
       lies = lies_says (section_at ws i) r.address r.kind e;
     }
-by_found ws r Nothing q k e = let z : ◌≡◌ {A = ℕ} 0 1 = cc in absurd (omega arith)
+by_found ws r None q k e = let z : ◌≡◌ {A = ℕ} 0 1 = cc in absurd (omega arith)
 
 pub sound_unbound : (ws : List ℕ) (r : Unbound) → unbound_sound ws r ≡ true → SoundUnbound ws r
 sound_unbound ws r e =

@@ -1,5 +1,6 @@
 -- The rules on sections, at each index, as plain facts.
 -- Assumes nothing.
+use Rattle.std.specs.Prelude.{Some}
 use mathlib.Core.Path.{◌≡◌, refl, sym}
 use mathlib.Core.Bool.{Bool, true, false, ◌&&◌, not}
 use mathlib.Core.List.{List, [], ◌∷◌}
@@ -10,7 +11,6 @@ use lib.Dec.{leb, ltb, eqb}
 use borrow.Author.Tests.{eq-eqb, ne_eqb, leb-true, ltb-true, eqb-true, eqb-false, not-true}
 use Rattle.words.specs.Choice.{pick}
 use Rattle.search.specs.Every.{every}
-use Rattle.search.specs.declared.Found.TheVariants.{At}
 use Rattle.search.proofs.EveryLaws.{and_left, and_right, every_at}
 use Rattle.search.proofs.FirstMatch.{first_at}
 use Rattle.search.proofs.Conjunction.{chain_first, chain_at}
@@ -82,7 +82,7 @@ elf_once ws t i j l m e =
     i j (l, m, e)
 
 -- so a section is found by its own elf number
-pub elf_index_own : (ws : List ℕ) → SoundTables ws → (i : ℕ) → i < sections ws → elf_index ws (section_at ws i).elf ≡ At i
+pub elf_index_own : (ws : List ℕ) → SoundTables ws → (i : ℕ) → i < sections ws → elf_index ws (section_at ws i).elf ≡ Some i
 elf_index_own ws t i l =
     first_at (has_elf ws (section_at ws i).elf) (sections ws) i l
     (λ j k. ne_eqb _ _ (λ (e : (section_at ws j).elf ≡ (section_at ws i).elf). absurd (omega (arith, elf_once ws t j i (omega arith) l e))))

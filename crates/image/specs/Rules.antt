@@ -1,20 +1,18 @@
 -- Rule 1: what makes an image sound, a named line for each sentence of document 01, section "The image".
 -- Assumes nothing.
-use Rattle.std.specs.Prelude.{ℕ, zero, suc, ◌+◌, ◌-◌, ◌/◌, ◌%◌, ◌^◌, min, max, Bool, true, false, ◌&&◌, ◌||◌, not, List, length, leb, ltb, eqb}
+use Rattle.std.specs.Prelude.{ℕ, zero, suc, ◌+◌, ◌-◌, ◌/◌, ◌%◌, ◌^◌, min, max, Bool, true, false, ◌&&◌, ◌||◌, not, List, length, leb, ltb, eqb, Result, Ok, Err, ⊤, Option}
 use Rattle.words.specs.Choice.{pick}
 use Rattle.places.specs.declared.SectionAddress.{SectionAddress}
 use Rattle.places.specs.Places.{before}
 use Rattle.search.specs.First.{first, on_found}
 use Rattle.search.specs.Every.{every}
-use Rattle.search.specs.declared.Found.{Found}
 use Rattle.image.specs.declared.Section.{Section}
 use Rattle.image.specs.declared.Bound.{Bound}
 use Rattle.image.specs.declared.Unbound.{Unbound}
 use Rattle.image.specs.declared.Symbol.{Symbol}
-use Rattle.image.specs.declared.Judged.{Judged}
-use Rattle.image.specs.declared.Judged.TheVariants.{Sound, Broken}
 use Rattle.image.specs.Numbers.{max_sections, max_entries, max_code_words, executable_kind, code_kind, bss_kind, absolute_kind, no_section}
 use Rattle.image.specs.Layout.{image_kind, sections, bounds, unbounds, symbols, words_in_all, section_at, bound_at, unbound_at, symbol_at}
+use Rattle.image.specs.declared.BrokenImage.{BrokenImage}
 
 -- the words are as many as the head says
 abbrev pub laid_out : List ℕ → Bool
@@ -86,7 +84,7 @@ lies_in s a kind = leb s.address a && leb (a + pick (eqb kind absolute_kind) 4 1
 abbrev pub has_elf : List ℕ → ℕ → ℕ → Bool
 has_elf ws elf i = eqb (section_at ws i).elf elf
 
-abbrev pub elf_index : List ℕ → ℕ → Found
+abbrev pub elf_index : List ℕ → ℕ → Option ℕ
 elf_index ws elf = first (has_elf ws elf) (sections ws)
 
 -- bound relocations: an existing section that holds them, a known kind, an existing symbol section or none
@@ -145,9 +143,12 @@ abbrev pub sound : List ℕ → ℕ → Bool
 sound ws n = tables_sound ws && data_inside ws n
 
 -- the answer, and its number in document 01: 1 for a broken rule
-abbrev pub judged : List ℕ → ℕ → Judged
-judged ws n = pick (sound ws n) Sound Broken
+abbrev pub broken : BrokenImage
+broken = record {}
 
-abbrev pub answer_of : Judged → ℕ
-answer_of Sound = 0
-answer_of Broken = 1
+abbrev pub judged : List ℕ → ℕ → Result ⊤ BrokenImage
+judged ws n = pick (sound ws n) (Ok tt) (Err broken)
+
+abbrev pub answer_of : Result ⊤ BrokenImage → ℕ
+answer_of (Ok tt) = 0
+answer_of (Err why) = 1

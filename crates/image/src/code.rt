@@ -14,21 +14,21 @@ pub fn words_of(s: Section) -> usize
     ensures { (result ≡ words_of s) × (result < 2 ^ 30) }
 {
     if s.kind == CODE {
-        return (s.size / 4) as usize;
+        (s.size / 4) as usize
+    } else {
+        0
     }
-    0
 }
 
 // The Code words of the sections before number i.
+#[tactic(auto, using(crate::proofs::CodeWords::words_none, crate::proofs::CodeWords::words_more))]
 pub fn words_before(im: &[u32], i: usize) -> usize
     requires { Laid im.now × (i ≤ sections im.now) }
     ensures { result ≡ words_before im.now i }
 {
     let mut sum = 0;
-    let mut j = 0;
-    while j < i {
+    for j in 0..i {
         sum += words_of(section(im, j));
-        j += 1;
     }
     sum
 }

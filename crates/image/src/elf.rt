@@ -7,22 +7,14 @@ ghost use Rattle.image.specs.Laid.{Laid};
 ghost use Rattle.image.specs.Rules.{elf_index, elf_distinct};
 
 use crate::table::section_count;
-use search::Found;
+use search::first;
 
 // The index of the first section with that elf number, or nothing: the only one, where elf numbers are distinct.
-pub fn elf_index(im: &[u32], elf: u32) -> Found
+pub fn elf_index(im: &[u32], elf: u32) -> Option<usize>
     requires { sections im.now * 6 + 5 < length im.now }
     ensures { result ≡ elf_index im.now elf }
 {
-    let n = section_count(im);
-    let mut i = 0;
-    while i < n {
-        if im[i * 6 + 9] == elf {
-            return Found::At(i);
-        }
-        i += 1;
-    }
-    Found::Nothing
+    first(section_count(im), |i| im[i * 6 + 9] == elf)
 }
 
 // No section before number i has its elf number.
@@ -31,14 +23,7 @@ fn elf_is_new(im: &[u32], i: usize) -> bool
     ensures { result ≡ every (λ (j : ℕ). not (eqb (section_at im.now j).elf (section_at im.now i).elf)) i }
 {
     let elf = im[i * 6 + 9];
-    let mut j = 0;
-    while j < i {
-        if im[j * 6 + 9] == elf {
-            return false;
-        }
-        j += 1;
-    }
-    true
+    (0..i).all(|j| im[j * 6 + 9] != elf)
 }
 
 // Elf numbers are distinct.
@@ -46,13 +31,5 @@ pub fn elf_distinct(im: &[u32]) -> bool
     requires { Laid im.now }
     ensures { result ≡ elf_distinct im.now }
 {
-    let n = section_count(im);
-    let mut i = 0;
-    while i < n {
-        if !elf_is_new(im, i) {
-            return false;
-        }
-        i += 1;
-    }
-    true
+    (0..section_count(im)).all(|i| elf_is_new(im, i))
 }

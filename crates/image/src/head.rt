@@ -10,11 +10,7 @@ use crate::table::{symbol_count, symbols_from};
 pub fn laid_out(im: &[u32]) -> bool
     ensures { result ≡ laid_out im.now }
 {
-    if im.len() < 6 {
-        return false;
-    }
-    let end = symbols_from(im) + symbol_count(im) * 4;
-    im.len() == end
+    im.len() >= 6 && im.len() == symbols_from(im) + symbol_count(im) * 4
 }
 
 // 1 to 64 sections, at most 4,096 entries in each further table.

@@ -14,13 +14,7 @@ use crate::sections::{sections_apart, sections_sound};
 fn head_sound(im: &[u32]) -> bool
     ensures { result ≡ laid_out im.now && counted im.now && kind_known im.now }
 {
-    if !laid_out(im) {
-        return false;
-    }
-    if !is_counted(im) {
-        return false;
-    }
-    is_kind_known(im)
+    laid_out(im) && is_counted(im) && is_kind_known(im)
 }
 
 // The rules on sections.
@@ -28,16 +22,7 @@ fn section_table_sound(im: &[u32]) -> bool
     requires { Laid im.now }
     ensures { result ≡ sections_sound im.now && elf_distinct im.now && sections_apart im.now && few_code_words im.now }
 {
-    if !sections_sound(im) {
-        return false;
-    }
-    if !elf_distinct(im) {
-        return false;
-    }
-    if !sections_apart(im) {
-        return false;
-    }
-    few_code_words(im)
+    sections_sound(im) && elf_distinct(im) && sections_apart(im) && few_code_words(im)
 }
 
 // The rules on the further tables.
@@ -45,30 +30,17 @@ fn further_tables_sound(im: &[u32]) -> bool
     requires { Laid im.now }
     ensures { result ≡ bounds_sound im.now && bounds_ascend im.now && unbounds_sound im.now && symbols_sound im.now && symbols_ascend im.now }
 {
-    if !bounds_sound(im) {
-        return false;
-    }
-    if !bounds_ascend(im) {
-        return false;
-    }
-    if !unbounds_sound(im) {
-        return false;
-    }
-    if !symbols_sound(im) {
-        return false;
-    }
-    symbols_ascend(im)
+    bounds_sound(im)
+        && bounds_ascend(im)
+        && unbounds_sound(im)
+        && symbols_sound(im)
+        && symbols_ascend(im)
 }
 
 // Every rule on the tables holds. Any words may be asked about.
+#[tactic(auto, unfolding(crate::specs::Rules::tables_sound))]
 pub fn tables_sound(im: &[u32]) -> bool
     ensures { result ≡ tables_sound im.now }
 {
-    if !head_sound(im) {
-        return false;
-    }
-    if !section_table_sound(im) {
-        return false;
-    }
-    further_tables_sound(im)
+    head_sound(im) && section_table_sound(im) && further_tables_sound(im)
 }

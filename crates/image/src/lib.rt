@@ -14,7 +14,8 @@ pub mod table;
 ghost use Rattle.std.specs.Prelude.{◌≡◌, length};
 ghost use Rattle.image.specs.Rules.{judged};
 
-// One section: its address, size, kind and elf number, and the place and length of its data in the buffer.
+// One section: its address, size, kind and elf number, and the place and length of its data in the buffer. Its
+// kind is a number, no enum, and so are those below: an image's words may hold any, and rule 1 judges them.
 #[derive(Clone, Copy)]
 pub struct Section {
     pub address: u32,
@@ -56,21 +57,17 @@ pub struct Symbol {
     pub known: u32,
 }
 
-// What judging an image answers.
-#[derive(Clone, Copy)]
-pub enum Judged {
-    Broken,
-    Sound,
-}
+// A rule on images is broken: document 01's 1.
+#[derive(Clone, Copy, Debug, PartialEq, Eq)]
+pub struct BrokenImage;
 
-// The judge of rule 1, for any words and bytes: `Broken`, document 01's 1, exactly where a rule is broken. Nothing is touched.
-pub fn check_image(im: &[u32], data: &[u8]) -> Judged
+// The judge of rule 1, for any words and bytes: BrokenImage, document 01's 1, exactly where a rule is broken. Nothing is touched.
+pub fn check_image(im: &[u32], data: &[u8]) -> Result<(), BrokenImage>
     ensures { result ≡ judged im.now (length «data».now) }
 {
-    if judge::tables_sound(im) {
-        if sections::data_inside(im, data.len()) {
-            return Judged::Sound;
-        }
+    if judge::tables_sound(im) && sections::data_inside(im, data.len()) {
+        Ok(())
+    } else {
+        Err(BrokenImage)
     }
-    Judged::Broken
 }

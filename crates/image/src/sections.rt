@@ -21,23 +21,15 @@ pub fn end_of(s: Section) -> u64
 fn is_aligned(s: Section) -> bool
     ensures { result ≡ aligned s }
 {
-    if s.kind == CODE {
-        return (s.address % 4 == 0) & (s.size % 4 == 0);
-    }
-    true
+    s.kind != CODE || (s.address % 4 == 0 && s.size % 4 == 0)
 }
 
 // A known kind, an end below 2^32, data of exactly size bytes and none for Bss, Code aligned.
 pub fn section_sound(s: Section) -> bool
     ensures { result ≡ section_sound s }
 {
-    let end = end_of(s);
-    let fine = is_aligned(s);
-    let head = (s.kind < 4) & (end < 0x1_0000_0000);
-    if s.kind == BSS {
-        return head & (s.length == 0) & fine;
-    }
-    head & (s.length == s.size) & fine
+    let stored = if s.kind == BSS { 0 } else { s.size };
+    s.kind < 4 && end_of(s) < 0x1_0000_0000 && s.length == stored && is_aligned(s)
 }
 
 // Every section is sound by itself.
@@ -45,42 +37,16 @@ pub fn sections_sound(im: &[u32]) -> bool
     requires { Laid im.now }
     ensures { result ≡ sections_sound im.now }
 {
-    let n = section_count(im);
-    let mut i = 0;
-    while i < n {
-        if !section_sound(section(im, i)) {
-            return false;
-        }
-        i += 1;
-    }
-    true
-}
-
-fn smaller(a: u64, b: u64) -> u64
-    ensures { result ≡ min a b }
-{
-    if a <= b {
-        return a;
-    }
-    b
-}
-
-fn larger(a: u64, b: u64) -> u64
-    ensures { result ≡ max a b }
-{
-    if a <= b {
-        return b;
-    }
-    a
+    (0..section_count(im)).all(|i| section_sound(section(im, i)))
 }
 
 // Two sections share no byte.
 pub fn are_apart(s: Section, t: Section) -> bool
     ensures { result ≡ apart s t }
 {
-    let end = smaller(end_of(s), end_of(t));
-    let start = larger(s.address as u64, t.address as u64);
-    end <= start
+    let end = end_of(s).min(end_of(t));
+    let start = s.address.max(t.address);
+    end <= start as u64
 }
 
 // Section i shares no byte with one before it.
@@ -89,14 +55,7 @@ fn apart_before(im: &[u32], i: usize) -> bool
     ensures { result ≡ every (λ (j : ℕ). apart (section_at im.now j) (section_at im.now i)) i }
 {
     let t = section(im, i);
-    let mut j = 0;
-    while j < i {
-        if !are_apart(section(im, j), t) {
-            return false;
-        }
-        j += 1;
-    }
-    true
+    (0..i).all(|j| are_apart(section(im, j), t))
 }
 
 // In an Executable no byte is in two sections.
@@ -104,18 +63,7 @@ pub fn sections_apart(im: &[u32]) -> bool
     requires { Laid im.now }
     ensures { result ≡ sections_apart im.now }
 {
-    if im[0] != EXECUTABLE {
-        return true;
-    }
-    let n = section_count(im);
-    let mut i = 0;
-    while i < n {
-        if !apart_before(im, i) {
-            return false;
-        }
-        i += 1;
-    }
-    true
+    im[0] != EXECUTABLE || (0..section_count(im)).all(|i| apart_before(im, i))
 }
 
 // Each section's data lies in a buffer of n bytes.
@@ -123,14 +71,8 @@ pub fn data_inside(im: &[u32], n: usize) -> bool
     requires { Laid im.now }
     ensures { result ≡ data_inside im.now n }
 {
-    let count = section_count(im);
-    let mut i = 0;
-    while i < count {
+    (0..section_count(im)).all(|i| {
         let s = section(im, i);
-        if s.place as usize + s.length as usize > n {
-            return false;
-        }
-        i += 1;
-    }
-    true
+        s.place as usize + s.length as usize <= n
+    })
 }

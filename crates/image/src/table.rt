@@ -1,7 +1,7 @@
 // The image's tables read from its words: how many records each has, where it begins, and one record by its index.
 // Each function requires that the words it reads are there; our own crates alone call them, after `check_image`.
 ghost use Rattle.std.specs.Prelude.{◌≡◌, ◌+◌, ◌*◌, ◌<◌, length};
-ghost use Rattle.image.specs.Layout.{sections, bounds, unbounds, symbols, bounds_from, unbounds_from, symbols_from, section_at, bound_at, unbound_at, symbol_at};
+ghost use Rattle.image.specs.Layout.{word, sections, bounds, unbounds, symbols, bounds_from, unbounds_from, symbols_from, section_at, bound_at, unbound_at, symbol_at};
 ghost use Rattle.image.specs.Rules.{bound_place, symbol_place};
 
 use crate::{Bound, Section, Symbol, Unbound};
@@ -12,28 +12,28 @@ pub fn section_count(im: &[u32]) -> usize
     requires { 5 < length im.now }
     ensures { result ≡ sections im.now }
 {
-    wide(im[2])
+    im[2] as usize
 }
 
 pub fn bound_count(im: &[u32]) -> usize
     requires { 5 < length im.now }
     ensures { result ≡ bounds im.now }
 {
-    wide(im[3])
+    im[3] as usize
 }
 
 pub fn unbound_count(im: &[u32]) -> usize
     requires { 5 < length im.now }
     ensures { result ≡ unbounds im.now }
 {
-    wide(im[4])
+    im[4] as usize
 }
 
 pub fn symbol_count(im: &[u32]) -> usize
     requires { 5 < length im.now }
     ensures { result ≡ symbols im.now }
 {
-    wide(im[5])
+    im[5] as usize
 }
 
 // Where the further tables begin.
@@ -41,21 +41,21 @@ pub fn bounds_from(im: &[u32]) -> usize
     requires { 5 < length im.now }
     ensures { result ≡ bounds_from im.now }
 {
-    wide(im[2]) * 6 + 6
+    im[2] as usize * 6 + 6
 }
 
 pub fn unbounds_from(im: &[u32]) -> usize
     requires { 5 < length im.now }
     ensures { result ≡ unbounds_from im.now }
 {
-    bounds_from(im) + wide(im[3]) * 6
+    bounds_from(im) + im[3] as usize * 6
 }
 
 pub fn symbols_from(im: &[u32]) -> usize
     requires { 5 < length im.now }
     ensures { result ≡ symbols_from im.now }
 {
-    unbounds_from(im) + wide(im[4]) * 6
+    unbounds_from(im) + im[4] as usize * 6
 }
 
 // Section number i.
@@ -95,11 +95,7 @@ pub fn bound_place(im: &[u32], j: usize) -> SectionAddress
     requires { bounds_from im.now + j * 6 + 5 < length im.now }
     ensures { result ≡ bound_place im.now j }
 {
-    let at = bounds_from(im) + j * 6;
-    SectionAddress {
-        section: im[at],
-        address: im[at + 1],
-    }
+    place_at(im, bounds_from(im) + j * 6)
 }
 
 // Unbound relocation number j.
@@ -137,15 +133,16 @@ pub fn symbol_place(im: &[u32], j: usize) -> SectionAddress
     requires { symbols_from im.now + j * 4 + 3 < length im.now }
     ensures { result ≡ symbol_place im.now j }
 {
-    let at = symbols_from(im) + j * 4;
-    SectionAddress {
-        section: im[at],
-        address: im[at + 1],
-    }
+    place_at(im, symbols_from(im) + j * 4)
 }
 
-fn wide(x: u32) -> usize
-    ensures { result ≡ x }
+// The place whose section and address begin at word k.
+fn place_at(im: &[u32], k: usize) -> SectionAddress
+    requires { k + 1 < length im.now }
+    ensures { result ≡ record { section = word im.now k; address = word im.now (k + 1) } }
 {
-    x as usize
+    SectionAddress {
+        section: im[k],
+        address: im[k + 1],
+    }
 }

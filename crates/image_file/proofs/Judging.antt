@@ -9,28 +9,27 @@ use lib.Dec.{leb}
 use borrow.Author.Tests.{leb-true}
 use Rattle.image_file.specs.declared.Wrong.{Wrong}
 use Rattle.image_file.specs.declared.Wrong.TheVariants as wrong
-use Rattle.image_file.specs.declared.Check.{Check}
-use Rattle.image_file.specs.declared.Check.TheVariants.{Fine, Off}
-use Rattle.image_file.specs.Reading.{head_word, checked, or_else, head_judged, flags_judged, length_judged, room_judged, judged}
+use Rattle.std.specs.Prelude.{Ok, Err}
+use Rattle.image_file.specs.Reading.{Check, head_word, checked, or_else, head_judged, flags_judged, length_judged, room_judged, judged}
 
-pub left_fine : (a b : Check) → or_else a b ≡ Fine → a ≡ Fine
-left_fine Fine b e = refl
-left_fine (Off w at) b e = e
+pub left_fine : (a b : Check) → or_else a b ≡ Ok tt → a ≡ Ok tt
+left_fine (Ok u) b e = refl
+left_fine (Err f) b e = e
 
-pub right_fine : (a b : Check) → or_else a b ≡ Fine → b ≡ Fine
-right_fine Fine b e = e
-right_fine (Off w at) b e = let z : ◌≡◌ {A = ℕ} 0 1 = cc in absurd (omega arith)
+pub right_fine : (a b : Check) → or_else a b ≡ Ok tt → b ≡ Ok tt
+right_fine (Ok u) b e = e
+right_fine (Err f) b e = let z : ◌≡◌ {A = ℕ} 0 1 = cc in absurd (omega arith)
 
-pub test_holds : (t : Bool) (w : Wrong) (at : ℕ) → checked t w at ≡ Fine → t ≡ true
+pub test_holds : (t : Bool) (w : Wrong) (at : ℕ) → checked t w at ≡ Ok tt → t ≡ true
 test_holds true w at e = refl
 test_holds false w at e = let z : ◌≡◌ {A = ℕ} 0 1 = cc in absurd (omega arith)
 
-module _ (bs : List ℕ) (words starts : ℕ) (fine : judged bs words starts ≡ Fine) where
-  tail_fine : or_else (length_judged bs) (room_judged bs words starts) ≡ Fine
+module _ (bs : List ℕ) (words starts : ℕ) (fine : judged bs words starts ≡ Ok tt) where
+  tail_fine : or_else (length_judged bs) (room_judged bs words starts) ≡ Ok tt
   unfolding judged
   tail_fine = right_fine (or_else (head_judged bs) (flags_judged bs)) _ fine
 
-  room_fine : room_judged bs words starts ≡ Fine
+  room_fine : room_judged bs words starts ≡ Ok tt
   room_fine = right_fine (length_judged bs) _ tail_fine
 
   pub words_fit : head_word bs 2 ≤ words

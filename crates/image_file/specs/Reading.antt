@@ -1,21 +1,14 @@
 -- What an image file says, read from its bytes: docs/FORMATS.md, "The image file".
 -- Assumes nothing.
-use Rattle.std.specs.Prelude.{ℕ, zero, suc, ◌+◌, ◌*◌, Bool, ◌||◌, List, [], ◌∷◌, length, leb, ltb, eqb}
+use Rattle.std.specs.Prelude.{ℕ, zero, suc, ◌+◌, ◌*◌, Bool, ◌||◌, List, [], ◌∷◌, length, leb, ltb, eqb, Result, Ok, Err, ⊤, Option, Some, None}
 use Rattle.std.proofs.lemmas.List.Edits.{sets}
 use Rattle.words.specs.Choice.{pick}
 use Rattle.words.specs.Bytes.{word_in}
 use Rattle.places.specs.declared.SectionAddress.{SectionAddress}
-use Rattle.places.specs.declared.MaybeAddress.{MaybeAddress}
-use Rattle.places.specs.declared.MaybeAddress.TheVariants as maybe
-use Rattle.vm.specs.declared.MaybeBase.{MaybeBase}
-use Rattle.vm.specs.declared.MaybeBase.TheVariants as base
 use Rattle.image_file.specs.declared.Head.{Head}
 use Rattle.image_file.specs.declared.Wrong.{Wrong}
 use Rattle.image_file.specs.declared.Wrong.TheVariants as wrong
-use Rattle.image_file.specs.declared.Check.{Check}
-use Rattle.image_file.specs.declared.Check.TheVariants.{Fine, Off}
-use Rattle.image_file.specs.declared.Parsed.{Parsed}
-use Rattle.image_file.specs.declared.Parsed.TheVariants.{Bad, File}
+use Rattle.image_file.specs.declared.Fault.{Fault}
 
 -- the letters GELR, and the version
 abbrev pub magic : ℕ
@@ -43,14 +36,14 @@ abbrev pub whole_length : List ℕ → ℕ
 whole_length bs = data_from bs + head_word bs 4
 
 -- a number that may be given, a place, a place that may be given
-abbrev pub base_at : List ℕ → ℕ → MaybeBase
-base_at bs k = pick (eqb (head_word bs k) 1) (base.Value (head_word bs (k + 1))) base.Unset
+abbrev pub base_at : List ℕ → ℕ → Option ℕ
+base_at bs k = pick (eqb (head_word bs k) 1) (Some (head_word bs (k + 1))) None
 
 abbrev pub place_at : List ℕ → ℕ → SectionAddress
 place_at bs k = record { section = head_word bs k; address = head_word bs (k + 1) }
 
-abbrev pub maybe_at : List ℕ → ℕ → MaybeAddress
-maybe_at bs k = pick (eqb (head_word bs k) 1) (maybe.At (place_at bs (k + 1))) maybe.Nowhere
+abbrev pub maybe_at : List ℕ → ℕ → Option SectionAddress
+maybe_at bs k = pick (eqb (head_word bs k) 1) (Some (place_at bs (k + 1))) None
 
 -- the head
 abbrev pub head_of : List ℕ → Head
@@ -89,14 +82,21 @@ image_words bs = words_from bs head_length (head_word bs 2)
 abbrev pub start_keys : List ℕ → List ℕ
 start_keys bs = keys_from bs (starts_from bs) (head_word bs 3)
 
+-- nothing is wrong, or that is, and shows at a byte
+abbrev pub Check : Type 0
+Check = Result ⊤ Fault
+
+abbrev pub off : {A : Type 0} → Wrong → ℕ → Result A Fault
+off w at = Err (record { wrong = w; at = at })
+
 -- nothing is wrong where a test holds; else that is, and shows at a byte
 abbrev pub checked : Bool → Wrong → ℕ → Check
-checked fine w at = pick fine Fine (Off w at)
+checked fine w at = pick fine (Ok tt) (off w at)
 
 -- the first of two that is off
 abbrev pub or_else : Check → Check → Check
-or_else Fine b = b
-or_else (Off w at) b = Off w at
+or_else (Ok u) b = b
+or_else (Err f) b = Err f
 
 -- the head is there, and begins with the letters and the version
 abbrev pub head_judged : List ℕ → Check
@@ -134,12 +134,12 @@ judged bs words starts = or_else (or_else (head_judged bs) (flags_judged bs)) (o
 
 -- by cases
 abbrev pub on_check : {A : Type 0} → Check → A → (Wrong → ℕ → A) → A
-on_check Fine z f = z
-on_check (Off w at) z f = f w at
+on_check (Ok u) z f = z
+on_check (Err e) z f = f e.wrong e.at
 
 -- the answer, and what it leaves: a file that is off touches nothing
-abbrev pub answered : List ℕ → ℕ → ℕ → Parsed
-answered bs words starts = on_check (judged bs words starts) (File (head_of bs)) Bad
+abbrev pub answered : List ℕ → ℕ → ℕ → Result Head Fault
+answered bs words starts = on_check (judged bs words starts) (Ok (head_of bs)) off
 
 abbrev pub image_left : List ℕ → List ℕ → ℕ → List ℕ
 image_left bs im starts = on_check (judged bs (length im) starts) (sets im 0 (image_words bs)) (λ w at. im)

@@ -1,9 +1,9 @@
 // What may be wrong with a file: a check for each thing, in order, and the first of them that is off.
 ghost use Rattle.std.specs.Prelude.{◌≡◌, ◌<◌, length};
-ghost use Rattle.image_file.specs.Reading.{checked, or_else, flag_is, unused_is, head_judged, flags_judged, length_judged, room_judged, judged};
+ghost use Rattle.image_file.specs.Reading.{checked, flag_is, unused_is, head_judged, flags_judged, length_judged, room_judged, judged};
 
 use crate::fields::word;
-use crate::{Check, Wrong};
+use crate::{Fault, Wrong};
 
 // The first word of a file, the letters GELR; the one version; the bytes of the head.
 const MAGIC: u32 = 0x4745_4c52;
@@ -13,38 +13,27 @@ const VERSION: u32 = 1;
 const HEAD: usize = 56;
 
 // Nothing is wrong, or that is, and shows at a byte.
-fn checked(fine: bool, wrong: Wrong, at: usize) -> Check
+fn checked(fine: bool, wrong: Wrong, at: usize) -> Result<(), Fault>
     ensures { result ≡ checked fine wrong at }
 {
     if fine {
-        return Check::Fine;
+        return Ok(());
     }
-    Check::Off(wrong, at)
-}
-
-// The first of two that is off.
-fn or_else(a: Check, b: Check) -> Check
-    ensures { result ≡ or_else a b }
-{
-    match a {
-        Check::Fine => b,
-        Check::Off(wrong, at) => Check::Off(wrong, at),
-    }
+    Err(Fault { wrong, at })
 }
 
 // The head is there, and begins as it must.
-fn judge_head(file: &[u8]) -> Check
+fn judge_head(file: &[u8]) -> Result<(), Fault>
     ensures { result ≡ head_judged file.now }
 {
     let n = file.len();
-    let long = checked(HEAD <= n, Wrong::Short, n);
-    let magic = checked(word(file, 0) == MAGIC, Wrong::Magic, 0);
-    let version = checked(word(file, 1) == VERSION, Wrong::Version, 4);
-    or_else(long, or_else(magic, version))
+    checked(HEAD <= n, Wrong::Short, n)?;
+    checked(word(file, 0) == MAGIC, Wrong::Magic, 0)?;
+    checked(word(file, 1) == VERSION, Wrong::Version, 4)
 }
 
 // Word k is a flag.
-fn judge_flag(file: &[u8], k: u32) -> Check
+fn judge_flag(file: &[u8], k: u32) -> Result<(), Fault>
     requires { k < 14 }
     ensures { result ≡ flag_is file.now k }
 {
@@ -52,54 +41,53 @@ fn judge_flag(file: &[u8], k: u32) -> Check
 }
 
 // Word j is 0 unless the flag at word k says that it is given.
-fn judge_unused(file: &[u8], k: u32, j: u32) -> Check
+fn judge_unused(file: &[u8], k: u32, j: u32) -> Result<(), Fault>
     requires { (k < 14) × (j < 14) }
     ensures { result ≡ unused_is file.now k j }
 {
     let given = word(file, k) == 1;
     let zero = word(file, j) == 0;
-    checked(given | zero, Wrong::Unused, j as usize * 4)
+    checked(given || zero, Wrong::Unused, j as usize * 4)
 }
 
 // The three flags, and what is not given.
-fn judge_flags(file: &[u8]) -> Check
+fn judge_flags(file: &[u8]) -> Result<(), Fault>
     ensures { result ≡ flags_judged file.now }
 {
-    let two = or_else(judge_flag(file, 5), judge_unused(file, 5, 6));
-    let thirteen = or_else(judge_flag(file, 7), judge_unused(file, 7, 8));
-    let upto = or_else(judge_unused(file, 11, 12), judge_unused(file, 11, 13));
-    or_else(two, or_else(thirteen, or_else(judge_flag(file, 11), upto)))
+    judge_flag(file, 5)?;
+    judge_unused(file, 5, 6)?;
+    judge_flag(file, 7)?;
+    judge_unused(file, 7, 8)?;
+    judge_flag(file, 11)?;
+    judge_unused(file, 11, 12)?;
+    judge_unused(file, 11, 13)
 }
 
 // The file is as long as its counts say.
-fn judge_length(file: &[u8]) -> Check
+fn judge_length(file: &[u8]) -> Result<(), Fault>
     ensures { result ≡ length_judged file.now }
 {
     let n = file.len();
     let end = crate::whole_length(file);
-    or_else(
-        checked(end <= n, Wrong::Truncated, n),
-        checked(n <= end, Wrong::Trailing, end),
-    )
+    checked(end <= n, Wrong::Truncated, n)?;
+    checked(n <= end, Wrong::Trailing, end)
 }
 
 // There is room for the image's words and the starts.
-fn judge_room(file: &[u8], words: usize, starts: usize) -> Check
+fn judge_room(file: &[u8], words: usize, starts: usize) -> Result<(), Fault>
     ensures { result ≡ room_judged file.now words starts }
 {
-    or_else(
-        checked(word(file, 2) as usize <= words, Wrong::WordsRoom, 8),
-        checked(word(file, 3) as usize <= starts, Wrong::StartsRoom, 12),
-    )
+    checked(word(file, 2) as usize <= words, Wrong::WordsRoom, 8)?;
+    checked(word(file, 3) as usize <= starts, Wrong::StartsRoom, 12)
 }
 
 // Every check, in order.
-pub fn judge(file: &[u8], words: usize, starts: usize) -> Check
+#[tactic(auto, unfolding(crate::specs::Reading::judged))]
+pub fn judge(file: &[u8], words: usize, starts: usize) -> Result<(), Fault>
     ensures { result ≡ judged file.now words starts }
 {
-    let head = or_else(judge_head(file), judge_flags(file));
-    or_else(
-        head,
-        or_else(judge_length(file), judge_room(file, words, starts)),
-    )
+    judge_head(file)?;
+    judge_flags(file)?;
+    judge_length(file)?;
+    judge_room(file, words, starts)
 }

@@ -11,10 +11,8 @@ pub fn copy_words(file: &[u8], n: usize, out: &mut [u32])
     requires { n ≤ length out.old }
     ensures { out.new ≡ sets out.old 0 (words_from file.now 56 n) }
 {
-    let mut i = 0;
-    while i < n {
+    for i in 0..n {
         out[i] = word_at(file, 56 + i * 4);
-        i += 1;
     }
 }
 
@@ -31,9 +29,7 @@ pub fn copy_starts(file: &[u8], from: usize, n: usize, out: &mut [u64])
     requires { (n ≤ length out.old) × (from < 2 ^ 40) }
     ensures { out.new ≡ sets out.old 0 (keys_from file.now from n) }
 {
-    let mut i = 0;
-    while i < n {
+    for i in 0..n {
         out[i] = key_at(file, from + i * 8);
-        i += 1;
     }
 }

@@ -3,8 +3,7 @@ ghost use Rattle.std.specs.Prelude.{◌≡◌, ◌<◌, ◌+◌, ◌*◌, ◌≤
 ghost use Rattle.image_file.specs.Reading.{head_word, data_from, base_at, place_at, maybe_at, head_of};
 
 use crate::Head;
-use places::{MaybeAddress, SectionAddress};
-use vm::MaybeBase;
+use places::SectionAddress;
 
 // Word k of the file, or 0 where it ends before that.
 pub fn word(file: &[u8], k: u32) -> u32
@@ -20,14 +19,14 @@ pub fn data_from(file: &[u8]) -> usize
     56 + word(file, 2) as usize * 4 + word(file, 3) as usize * 8
 }
 
-fn base_at(file: &[u8], k: u32) -> MaybeBase
+fn base_at(file: &[u8], k: u32) -> Option<u32>
     requires { k < 14 }
     ensures { result ≡ base_at file.now k }
 {
     if word(file, k) == 1 {
-        return MaybeBase::Value(word(file, k + 1));
+        return Some(word(file, k + 1));
     }
-    MaybeBase::Unset
+    None
 }
 
 fn place_at(file: &[u8], k: u32) -> SectionAddress
@@ -40,14 +39,14 @@ fn place_at(file: &[u8], k: u32) -> SectionAddress
     }
 }
 
-fn maybe_at(file: &[u8], k: u32) -> MaybeAddress
+fn maybe_at(file: &[u8], k: u32) -> Option<SectionAddress>
     requires { k < 12 }
     ensures { result ≡ maybe_at file.now k }
 {
     if word(file, k) == 1 {
-        return MaybeAddress::At(place_at(file, k + 1));
+        return Some(place_at(file, k + 1));
     }
-    MaybeAddress::Nowhere
+    None
 }
 
 // What the head says, whatever stands there.

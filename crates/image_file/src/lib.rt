@@ -5,15 +5,14 @@
 ghost use Rattle.std.specs.Prelude.{◌≡◌, length, drop};
 ghost use Rattle.image_file.specs.Reading.{whole_length, data_from, answered, image_left, starts_left};
 
-use places::{MaybeAddress, SectionAddress};
-use vm::MaybeBase;
+use places::SectionAddress;
 
 pub mod checks;
 pub mod copies;
 pub mod fields;
 
 // What is wrong with a file.
-#[derive(Clone, Copy)]
+#[derive(Clone, Copy, PartialEq, Eq, Debug)]
 pub enum Wrong {
     // It ends inside the head.
     Short,
@@ -35,11 +34,11 @@ pub enum Wrong {
     StartsRoom,
 }
 
-// What is wrong, and the byte at which that shows; or nothing.
-#[derive(Clone, Copy)]
-pub enum Check {
-    Fine,
-    Off(Wrong, usize),
+// What is wrong, and the byte at which that shows.
+#[derive(Clone, Copy, PartialEq, Eq, Debug)]
+pub struct Fault {
+    pub wrong: Wrong,
+    pub at: usize,
 }
 
 // What the head says: how many image words, starts and data bytes there are, and what the walk is given besides.
@@ -48,34 +47,23 @@ pub struct Head {
     pub words: u32,
     pub starts: u32,
     pub bytes: u32,
-    pub two: MaybeBase,
-    pub thirteen: MaybeBase,
+    pub two: Option<u32>,
+    pub thirteen: Option<u32>,
     pub from: SectionAddress,
-    pub upto: MaybeAddress,
-}
-
-// What reading a file answers.
-#[derive(Clone, Copy)]
-pub enum Parsed {
-    Bad(Wrong, usize),
-    File(Head),
+    pub upto: Option<SectionAddress>,
 }
 
 // The file's head, its image words at the start of `im` and its starts, as keys, at the start of `starts`. Where the bytes are
-// no image file, or there is too little room, the answer says what is wrong and at which byte, and both stay as they were.
-pub fn read_file(file: &[u8], im: &mut [u32], starts: &mut [u64]) -> Parsed
+// no image file, or there is too little room, the fault says what is wrong and at which byte, and both stay as they were.
+pub fn read_file(file: &[u8], im: &mut [u32], starts: &mut [u64]) -> Result<Head, Fault>
     ensures { (result ≡ answered file.now (length im.old) (length starts.old)) × (im.new ≡ image_left file.now im.old (length starts.old)) × (starts.new ≡ starts_left file.now (length im.old) starts.old) }
 {
-    match checks::judge(file, im.len(), starts.len()) {
-        Check::Off(wrong, at) => Parsed::Bad(wrong, at),
-        Check::Fine => {
-            let h = fields::head_of(file);
-            let m = h.words as usize;
-            copies::copy_words(file, m, im);
-            copies::copy_starts(file, 56 + m * 4, h.starts as usize, starts);
-            Parsed::File(h)
-        }
-    }
+    checks::judge(file, im.len(), starts.len())?;
+    let h = fields::head_of(file);
+    let m = h.words as usize;
+    copies::copy_words(file, m, im);
+    copies::copy_starts(file, 56 + m * 4, h.starts as usize, starts);
+    Ok(h)
 }
 
 // How many bytes the counts of a file ask for.

@@ -7,9 +7,9 @@ use mathlib.Core.List.{List, [], ◌∷◌}
 use native.Mathlib.Omega.{arith}
 use lib.ListN.{length}
 use lib.Dec.{eqb}
+use Rattle.std.specs.Prelude.{Option, Some, None}
 use Rattle.words.specs.Choice.{pick}
 use Rattle.places.specs.declared.SectionAddress.{SectionAddress}
-use Rattle.places.specs.declared.MaybeAddress.{MaybeAddress}
 use Rattle.image.specs.Layout.{section_at}
 use Rattle.image.specs.Rules.{end_of}
 use Rattle.lookups.specs.Bytes.{word_at}
@@ -17,8 +17,8 @@ use Rattle.jump_tables.specs.declared.How.{How}
 use Rattle.jump_tables.specs.declared.How.TheVariants.{Sized, Guessed}
 use Rattle.jump_tables.specs.declared.Reading.{Reading}
 use Rattle.jump_tables.specs.declared.Reading.TheVariants.{Stopped, Skipped, Faulty, Nowhere, Entry}
-use Rattle.jump_tables.specs.declared.TableAnswer.{TableAnswer}
-use Rattle.jump_tables.specs.declared.TableAnswer.TheVariants as answer
+use Rattle.jump_tables.specs.declared.TableError.{TableError}
+use Rattle.jump_tables.specs.declared.TableError.TheVariants as error
 use Rattle.jump_tables.specs.Readings.{sized_reading, guessed_reading, reading_of}
 use Rattle.jump_tables.specs.Tables.{on_stop, passed, verdict, Outcome, on_verdict, fitted, entries_of, read_off, word_place, word_reading, words_passed, clamped_size, size_of, is_table, sized_table, guessed_table, table_in}
 use Rattle.jump_tables.specs.Examined.{on_good, examined, words_examined}
@@ -26,20 +26,17 @@ use Rattle.jump_tables.specs.Examined.{on_good, examined, words_examined}
 -- readings with one outcome: the same verdict, and all the same where none is bad
 record Alike (rs qs : List Reading) : Type 0 where
   verdicts : verdict rs ≡ verdict qs
-  readings : verdict rs ≡ answer.Read → rs ≡ qs
+  readings : verdict rs ≡ None → rs ≡ qs
 
-error_not_read : {A : Type 0} → answer.RelocationError ≡ answer.Read → A
-error_not_read e = let z : ◌≡◌ {A = ℕ} 0 1 = cc in absurd (omega arith)
-
-nowhere_not_read : {A : Type 0} → answer.PointsNowhere ≡ answer.Read → A
-nowhere_not_read e = let z : ◌≡◌ {A = ℕ} 0 1 = cc in absurd (omega arith)
+bad_not_none : {A : Type 0} (b : TableError) → Some b ≡ None → A
+bad_not_none b e = let z : ◌≡◌ {A = ℕ} 0 1 = cc in absurd (omega arith)
 
 one_more : (r : Reading) (rs qs : List Reading) (m : ℕ) → (on_good r m ≡ m → Alike rs qs) → Alike (on_stop r [] (r ∷ rs)) (on_stop r [] (r ∷ qs))
 unfolding verdict
 one_more Stopped rs qs m h = record { verdicts = refl; readings = λ v. refl }
 one_more Skipped rs qs m h = let t = h refl in record { verdicts = t.verdicts; readings = λ v. ap (λ (l : List Reading). Skipped ∷ l) (t.readings v) }
-one_more Faulty rs qs m h = record { verdicts = refl; readings = λ v. error_not_read v }
-one_more Nowhere rs qs m h = record { verdicts = refl; readings = λ v. nowhere_not_read v }
+one_more Faulty rs qs m h = record { verdicts = refl; readings = λ v. bad_not_none error.RelocationError v }
+one_more Nowhere rs qs m h = record { verdicts = refl; readings = λ v. bad_not_none error.PointsNowhere v }
 one_more (Entry t) rs qs m h = let a = h refl in record { verdicts = a.verdicts; readings = λ v. ap (λ (l : List Reading). Entry t ∷ l) (a.readings v) }
 
 alike : (f g : ℕ → Reading) (n i : ℕ) → ((k : ℕ) → i ≤ k → k < i + examined f n i → f k ≡ g k) → Alike (passed f n i) (passed g n i)
@@ -50,13 +47,9 @@ alike f g (suc n) i h =
     (one_more (f i) (passed f n (suc i)) (passed g n (suc i)) (examined f n (suc i))
     (λ z. alike f g n (suc i) (λ k l m. h k (omega arith) (omega arith))))
 
-by_verdict : (a : TableAnswer) (o q : Outcome) (room : ℕ) → (a ≡ answer.Read → o ≡ q) → on_verdict a o room ≡ on_verdict a q room
-by_verdict answer.Read o q room h = h refl
-by_verdict answer.Broken o q room h = refl
-by_verdict answer.RelocationError o q room h = refl
-by_verdict answer.Ragged o q room h = refl
-by_verdict answer.PointsNowhere o q room h = refl
-by_verdict answer.Full o q room h = refl
+by_verdict : (a : Option TableError) (o q : Outcome) (room : ℕ) → (a ≡ None → o ≡ q) → on_verdict a o room ≡ on_verdict a q room
+by_verdict None o q room h = h refl
+by_verdict (Some e) o q room h = refl
 
 pub outcome_by_examined : (f g : ℕ → Reading) (n room : ℕ) → ((k : ℕ) → k < examined f n 0 → f k ≡ g k) → read_off (passed f n 0) room ≡ read_off (passed g n 0) room
 unfolding read_off
@@ -75,7 +68,7 @@ reading_by_word ws bs cs Sized q e = rw e
 reading_by_word ws bs cs (Guessed start e₀) q e = rw e
 
 -- two buffers that agree on the words examined of a table give one outcome
-module _ (ws bs cs : List ℕ) (p : SectionAddress) (n : ℕ) (start : SectionAddress) (e : MaybeAddress) (room : ℕ) where
+module _ (ws bs cs : List ℕ) (p : SectionAddress) (n : ℕ) (start : SectionAddress) (e : Option SectionAddress) (room : ℕ) where
   agree : (how : How) (m : ℕ) → ((k : ℕ) → k < examined (word_reading ws bs how p) m 0 → word_at ws bs (word_place p k) ≡ word_at ws cs (word_place p k))
       → read_off (words_passed ws bs how p m) room ≡ read_off (words_passed ws cs how p m) room
   agree how m h = outcome_by_examined (word_reading ws bs how p) (word_reading ws cs how p) m room (λ k l. reading_by_word ws bs cs how (word_place p k) (h k l))

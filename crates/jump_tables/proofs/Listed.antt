@@ -8,12 +8,14 @@ use native.Mathlib.Omega.{arith}
 use borrow.Author.Tests.{leb-true}
 use lib.ListN.{length, replicate}
 use lib.Dec.{leb}
+use Rattle.std.specs.Prelude.{Option, Some, None, Result, Ok, Err}
 use Rattle.words.specs.Choice.{pick}
 use Rattle.jump_tables.specs.declared.Reading.{Reading}
-use Rattle.jump_tables.specs.declared.TableAnswer.{TableAnswer}
-use Rattle.jump_tables.specs.declared.TableAnswer.TheVariants as answer
+use Rattle.jump_tables.specs.declared.Table.{Table}
+use Rattle.jump_tables.specs.declared.TableError.{TableError}
+use Rattle.jump_tables.specs.declared.TableError.TheVariants as error
 use Rattle.jump_tables.specs.Keys.{Ascending}
-use Rattle.jump_tables.specs.Tables.{verdict, entries_of, Outcome, refused, filled, fitted, on_verdict, read_off}
+use Rattle.jump_tables.specs.Tables.{count_of, bytes_of, verdict, entries_of, Outcome, refused, filled, fitted, on_verdict, read_off}
 use Rattle.jump_tables.proofs.EntrySet.{In, Target, entries_ascend, every_target_is_an_entry, every_entry_is_a_target}
 use Rattle.jump_tables.proofs.Corners.{fitting_is_read}
 
@@ -23,33 +25,28 @@ pub record Listed (rs : List Reading) (room : ℕ) (o : Outcome) : Type 0 where
   pub targets_in : (x : ℕ) → Target rs x → In x entries
   pub only_targets : (x : ℕ) → In x entries → Target rs x
   pub fits : length entries ≤ room
-  pub count : o.table.count ≡ length entries
-  pub size : o.table.size ≡ length rs * 4
+  pub table : o.table ≡ Ok (record { count = length entries; size = length rs * 4 })
   pub buffer : o.keys ≡ filled entries room
 
--- the answer is Read only where the verdict is, and the entries fit
-other : {A : Type 0} (a : TableAnswer) → (a ≡ answer.Read → ◌≡◌ {A = ℕ} 0 1) → a ≡ answer.Read → A
-other a f e = let z = f e in absurd (omega arith)
+-- the answer is Ok only where no reading is bad, and the entries fit
+error_not_ok : {A : Type 0} (e : TableError) (t : Table) → ◌≡◌ {A = Result Table TableError} (Err e) (Ok t) → A
+error_not_ok e t q = let z : ◌≡◌ {A = ℕ} 0 1 = cc in absurd (omega arith)
 
-verdict_read : (v : TableAnswer) (o : Outcome) (room : ℕ) → (on_verdict v o room).table.answer ≡ answer.Read → v ≡ answer.Read
-verdict_read answer.Read o room e = refl
-verdict_read answer.Broken o room e = other answer.Broken (λ q. cc) e
-verdict_read answer.RelocationError o room e = other answer.RelocationError (λ q. cc) e
-verdict_read answer.Ragged o room e = other answer.Ragged (λ q. cc) e
-verdict_read answer.PointsNowhere o room e = other answer.PointsNowhere (λ q. cc) e
-verdict_read answer.Full o room e = other answer.Full (λ q. cc) e
+none_bad : (v : Option TableError) (o : Outcome) (room : ℕ) (t : Table) → (on_verdict v o room).table ≡ Ok t → v ≡ None
+none_bad None o room t e = refl
+none_bad (Some b) o room t e = error_not_ok b t e
 
-full_not_read : (b : Bool) (o : Outcome) (room : ℕ) → (pick b o (refused answer.Full room)).table.answer ≡ answer.Read → b ≡ true
-full_not_read true o room e = refl
-full_not_read false o room e = other answer.Full (λ q. cc) e
+fits_of : (b : Bool) (o : Outcome) (room : ℕ) (t : Table) → (pick b o (refused error.Full room)).table ≡ Ok t → b ≡ true
+fits_of true o room t e = refl
+fits_of false o room t e = error_not_ok error.Full t e
 
-pub read_lists_targets : (rs : List Reading) (room : ℕ) → (read_off rs room).table.answer ≡ answer.Read → Listed rs room (read_off rs room)
+pub read_lists_targets : (rs : List Reading) (room : ℕ) (t : Table) → (read_off rs room).table ≡ Ok t → Listed rs room (read_off rs room)
 unfolding read_off
-read_lists_targets rs room e =
+read_lists_targets rs room t e =
     let ks = entries_of rs [] in
-    let v : verdict rs ≡ answer.Read = verdict_read (verdict rs) (fitted ks (length rs * 4) room) room e in
-    let whole : Outcome = record { table = record { answer = answer.Read; count = length ks; size = length rs * 4 }; keys = filled ks room } in
-    let fits = leb-true (length ks) room (full_not_read (leb (length ks) room) whole room (rw v at e)) in
+    let v : verdict rs ≡ None = none_bad (verdict rs) (fitted ks (length rs * 4) room) room t e in
+    let whole : Outcome = record { table = Ok (record { count = length ks; size = length rs * 4 }); keys = filled ks room } in
+    let fits = leb-true (length ks) room (fits_of (leb (length ks) room) whole room t (rw v at e)) in
     subst (Listed rs room) (sym (fitting_is_read rs room v fits))
     (record {
       entries = ks;
@@ -57,34 +54,31 @@ read_lists_targets rs room e =
       targets_in = every_target_is_an_entry rs;
       only_targets = every_entry_is_a_target rs;
       fits = fits;
-      count = refl;
-      size = refl;
+      table = refl;
       buffer = refl;
     })
 
 -- refused: no entries, size 0, zeros
 pub record Zeros (room : ℕ) (o : Outcome) : Type 0 where
-  pub count : o.table.count ≡ 0
-  pub size : o.table.size ≡ 0
+  pub count : count_of o.table ≡ 0
+  pub size : bytes_of o.table ≡ 0
   pub buffer : o.keys ≡ replicate room 0
 
-pub refused_leaves_zeros : (a : TableAnswer) (room : ℕ) → Zeros room (refused a room)
-refused_leaves_zeros a room = record { count = refl; size = refl; buffer = refl }
+pub refused_leaves_zeros : (e : TableError) (room : ℕ) → Zeros room (refused e room)
+refused_leaves_zeros e room = record { count = refl; size = refl; buffer = refl }
 
-by_fit : (b : Bool) (o : Outcome) (room : ℕ) → o.table.answer ≡ answer.Read → ((pick b o (refused answer.Full room)).table.answer ≡ answer.Read → ⊥)
-    → Zeros room (pick b o (refused answer.Full room))
-by_fit true o room r f = absurd (f r)
-by_fit false o room r f = refused_leaves_zeros answer.Full room
+by_fit : (b : Bool) (t : Table) (ks : List ℕ) (room : ℕ) (e : TableError)
+    → (pick b (record { table = Ok t; keys = ks }) (refused error.Full room)).table ≡ Err e
+    → Zeros room (pick b (record { table = Ok t; keys = ks }) (refused error.Full room))
+by_fit true t ks room e q = error_not_ok e t (sym q)
+by_fit false t ks room e q = refused_leaves_zeros error.Full room
 
-by_verdict : (v : TableAnswer) (rs : List Reading) (room : ℕ) → ((on_verdict v (fitted (entries_of rs []) (length rs * 4) room) room).table.answer ≡ answer.Read → ⊥)
+by_verdict : (v : Option TableError) (rs : List Reading) (room : ℕ) (e : TableError)
+    → (on_verdict v (fitted (entries_of rs []) (length rs * 4) room) room).table ≡ Err e
     → Zeros room (on_verdict v (fitted (entries_of rs []) (length rs * 4) room) room)
-by_verdict answer.Read rs room f = by_fit (leb (length (entries_of rs [])) room) _ room refl f
-by_verdict answer.Broken rs room f = refused_leaves_zeros answer.Broken room
-by_verdict answer.RelocationError rs room f = refused_leaves_zeros answer.RelocationError room
-by_verdict answer.Ragged rs room f = refused_leaves_zeros answer.Ragged room
-by_verdict answer.PointsNowhere rs room f = refused_leaves_zeros answer.PointsNowhere room
-by_verdict answer.Full rs room f = refused_leaves_zeros answer.Full room
+by_verdict None rs room e q = by_fit (leb (length (entries_of rs [])) room) _ _ room e q
+by_verdict (Some b) rs room e q = refused_leaves_zeros b room
 
-pub not_read_leaves_zeros : (rs : List Reading) (room : ℕ) → ((read_off rs room).table.answer ≡ answer.Read → ⊥) → Zeros room (read_off rs room)
+pub not_read_leaves_zeros : (rs : List Reading) (room : ℕ) (e : TableError) → (read_off rs room).table ≡ Err e → Zeros room (read_off rs room)
 unfolding read_off
-not_read_leaves_zeros rs room f = by_verdict (verdict rs) rs room f
+not_read_leaves_zeros rs room e q = by_verdict (verdict rs) rs room e q

@@ -7,46 +7,47 @@ use mathlib.Core.List.{List}
 use native.Mathlib.Omega.{arith}
 use borrow.Author.Tests.{eq-eqb, ne_eqb}
 use lib.ListN.{length, replicate}
+use Rattle.std.specs.Prelude.{Ok, Err, Result, ⊤, Option}
 use Rattle.words.specs.Choice.{pick}
 use Rattle.places.specs.declared.SectionAddress.{SectionAddress}
-use Rattle.places.specs.declared.MaybeAddress.{MaybeAddress}
 use Rattle.image.specs.Layout.{section_at}
 use Rattle.image.specs.Rules.{end_of, sound, judged}
-use Rattle.image.specs.declared.Judged.TheVariants.{Sound, Broken}
 use Rattle.jump_tables.specs.declared.How.TheVariants.{Sized, Guessed}
-use Rattle.jump_tables.specs.declared.TableAnswer.TheVariants as answer
-use Rattle.jump_tables.specs.Tables.{refused_table, refused, read_off, words_passed, clamped_size, size_of, is_table, sized_table, guessed_table, table_in, table_of}
+use Rattle.jump_tables.specs.declared.TableError.TheVariants as error
+use Rattle.jump_tables.specs.Tables.{refused, read_off, words_passed, clamped_size, size_of, is_table, sized_table, guessed_table, table_in, table_of}
+use Rattle.image.specs.declared.BrokenImage.{BrokenImage}
+use Rattle.image.specs.Rules.{broken}
 
 -- what the judge of images answers
-sound_case : (b : Bool) → pick b Sound Broken ≡ Sound → b ≡ true
+sound_case : (b : Bool) → ◌≡◌ {A = Result ⊤ BrokenImage} (pick b (Ok tt) (Err broken)) (Ok tt) → b ≡ true
 sound_case true e = refl
 sound_case false e = let z : ◌≡◌ {A = ℕ} 0 1 = cc in absurd (omega arith)
 
-broken_case : (b : Bool) → pick b Sound Broken ≡ Broken → b ≡ false
+broken_case : (b : Bool) → ◌≡◌ {A = Result ⊤ BrokenImage} (pick b (Ok tt) (Err broken)) (Err broken) → b ≡ false
 broken_case true e = let z : ◌≡◌ {A = ℕ} 0 1 = cc in absurd (omega arith)
 broken_case false e = refl
 
-pub judged_sound : (ws : List ℕ) (n : ℕ) → judged ws n ≡ Sound → sound ws n ≡ true
+pub judged_sound : (ws : List ℕ) (n : ℕ) → judged ws n ≡ Ok tt → sound ws n ≡ true
 judged_sound ws n e = sound_case (sound ws n) e
 
-pub judged_broken : (ws : List ℕ) (n : ℕ) → judged ws n ≡ Broken → sound ws n ≡ false
+pub judged_broken : (ws : List ℕ) (n : ℕ) → judged ws n ≡ Err broken → sound ws n ≡ false
 judged_broken ws n e = broken_case (sound ws n) e
 
 -- a broken image: 1, and the buffer is left as it was
-pub broken_is_1 : (ws bs : List ℕ) (p : SectionAddress) (n : ℕ) (start : SectionAddress) (e : MaybeAddress) (buffer : List ℕ) → sound ws (length bs) ≡ false
-    → table_of ws bs p n start e buffer ≡ record { table = refused_table answer.Broken; keys = buffer }
+pub broken_is_1 : (ws bs : List ℕ) (p : SectionAddress) (n : ℕ) (start : SectionAddress) (e : Option SectionAddress) (buffer : List ℕ) → sound ws (length bs) ≡ false
+    → table_of ws bs p n start e buffer ≡ record { table = Err error.Broken; keys = buffer }
 unfolding table_of
 broken_is_1 ws bs p n start e buffer s = rw s
 
-pub sound_is_read : (ws bs : List ℕ) (p : SectionAddress) (n : ℕ) (start : SectionAddress) (e : MaybeAddress) (buffer : List ℕ) → sound ws (length bs) ≡ true
+pub sound_is_read : (ws bs : List ℕ) (p : SectionAddress) (n : ℕ) (start : SectionAddress) (e : Option SectionAddress) (buffer : List ℕ) → sound ws (length bs) ≡ true
     → table_of ws bs p n start e buffer ≡ table_in ws bs p n start e (length buffer)
 unfolding table_of
 sound_is_read ws bs p n start e buffer s = rw s
 
-module _ (ws bs : List ℕ) (p : SectionAddress) (n : ℕ) (start : SectionAddress) (e : MaybeAddress) (room : ℕ) where
+module _ (ws bs : List ℕ) (p : SectionAddress) (n : ℕ) (start : SectionAddress) (e : Option SectionAddress) (room : ℕ) where
   -- a table outside Data and ReadOnly has no entries and size 0, whatever its size
   pub outside_is_empty : is_table ws p ≡ false
-      → table_in ws bs p n start e room ≡ record { table = record { answer = answer.Read; count = 0; size = 0 }; keys = replicate room 0 }
+      → table_in ws bs p n start e room ≡ record { table = Ok (record { count = 0; size = 0 }); keys = replicate room 0 }
   unfolding table_in
   outside_is_empty t = rw t
 
@@ -60,7 +61,7 @@ module _ (ws bs : List ℕ) (p : SectionAddress) (n : ℕ) (start : SectionAddre
   size_is_read t z = rw (t, ne_eqb (size_of ws p n) 0 z)
 
   -- a ragged table is 8 whatever its words are: before 7 and 9
-  pub ragged_sized : (size : ℕ) → size ≡ clamped_size ws p n → (size % 4 ≡ 0 → ⊥) → sized_table ws bs p n room ≡ refused answer.Ragged room
+  pub ragged_sized : (size : ℕ) → size ≡ clamped_size ws p n → (size % 4 ≡ 0 → ⊥) → sized_table ws bs p n room ≡ refused error.Ragged room
   unfolding sized_table
   ragged_sized size c r = rw (← c, ne_eqb (size % 4) 0 r)
 

@@ -1,5 +1,6 @@
 -- A sized table passes every word of its clamped size: none of them stops, so nothing is cut silently.
 -- Assumes nothing.
+use Rattle.std.specs.Prelude.{Some, None, Ok, Err, Option}
 use Prim.Native.Nat.{ℕ, zero, suc, ◌+◌, ◌*◌, ◌/◌, ◌^◌, ◌≤◌, ◌<◌}
 use mathlib.Core.Path.{◌≡◌, refl, ap}
 use mathlib.Core.Bool.{Bool, true, false}
@@ -10,14 +11,9 @@ use lib.Dec.{eqb}
 use Rattle.words.specs.Choice.{pick}
 use Rattle.words.specs.Bytes.{be32}
 use Rattle.places.specs.declared.SectionAddress.{SectionAddress}
-use Rattle.places.specs.declared.MaybeAddress.{MaybeAddress}
-use Rattle.places.specs.declared.MaybeAddress.TheVariants as maybe
 use Rattle.places.specs.declared.RelocationTarget.TheVariants.{External, Address}
 use Rattle.image.specs.Rules.{tables_sound, data_inside}
 use Rattle.lookups.specs.declared.Wanted.TheVariants.{Absolute}
-use Rattle.lookups.specs.declared.Relocation.{Relocation}
-use Rattle.lookups.specs.declared.Relocation.TheVariants.{Nothing, Error, To}
-use Rattle.lookups.specs.declared.MaybeWord.TheVariants.{Read}
 use Rattle.lookups.specs.Relocations.{relocation_for}
 use Rattle.lookups.specs.Bytes.{data_from, word_at}
 use Rattle.jump_tables.specs.declared.How.TheVariants.{Sized}
@@ -26,6 +22,7 @@ use Rattle.jump_tables.specs.declared.Reading.TheVariants.{Stopped, Skipped, Fau
 use Rattle.jump_tables.specs.Readings.{on_relocation, on_entry, bare_entry, sized_target, sized_word, sized_reading}
 use Rattle.jump_tables.specs.Tables.{on_stop, passed, word_place, word_reading, words_passed, Fitting, clamped_size, is_table}
 use Rattle.jump_tables.proofs.TablePlaces.{word_there}
+use Rattle.lookups.specs.Relocations.{Relocation}
 
 -- a reading that does not stop
 pub data Passes : Reading → Type 0 where
@@ -34,16 +31,16 @@ pub data Passes : Reading → Type 0 where
   nowhere : Passes Nowhere
   entry : {t : SectionAddress} → Passes (Entry t)
 
-bare_case : (b : Bool) (m : MaybeAddress) → Passes (pick b Skipped (on_entry m Nowhere Entry))
+bare_case : (b : Bool) (m : Option SectionAddress) → Passes (pick b Skipped (on_entry m Nowhere Entry))
 bare_case true m = Passes.skipped
-bare_case false maybe.Nowhere = Passes.nowhere
-bare_case false (maybe.At t) = Passes.entry
+bare_case false None = Passes.nowhere
+bare_case false (Some t) = Passes.entry
 
-by_relocation : (ws bs : List ℕ) (q : SectionAddress) (v : ℕ) → word_at ws bs q ≡ Read v → (r : Relocation) → Passes (on_relocation r (sized_word ws (word_at ws bs q)) sized_target)
-by_relocation ws bs q v e Nothing = rw e (bare_case (eqb v 0) (bare_entry ws v))
-by_relocation ws bs q v e Error = Passes.faulty
-by_relocation ws bs q v e (To External) = Passes.nowhere
-by_relocation ws bs q v e (To (Address t)) = Passes.entry
+by_relocation : (ws bs : List ℕ) (q : SectionAddress) (v : ℕ) → word_at ws bs q ≡ Some v → (r : Relocation) → Passes (on_relocation r (sized_word ws (word_at ws bs q)) sized_target)
+by_relocation ws bs q v e (Ok None) = rw e (bare_case (eqb v 0) (bare_entry ws v))
+by_relocation ws bs q v e (Err why) = Passes.faulty
+by_relocation ws bs q v e (Ok (Some External)) = Passes.nowhere
+by_relocation ws bs q v e (Ok (Some (Address t))) = Passes.entry
 
 pub sized_never_stops : (ws bs : List ℕ) (p : SectionAddress) (n k : ℕ) → tables_sound ws ≡ true → data_inside ws (length bs) ≡ true → is_table ws p ≡ true
     → k < clamped_size ws p n / 4 → Passes (sized_reading ws bs (word_place p k))

@@ -1,5 +1,6 @@
 -- A place in a Data or ReadOnly section of a sound image, and the words from there to the section's end.
 -- Assumes nothing.
+use Rattle.std.specs.Prelude.{Some}
 use Prim.Native.Nat.{ℕ, ◌+◌, ◌-◌, ◌≤◌}
 use mathlib.Core.Path.{◌≡◌, refl}
 use mathlib.Core.Bool.{Bool, true, false, ◌&&◌, ◌||◌}
@@ -14,7 +15,6 @@ use Rattle.search.proofs.EveryLaws.{and_left, and_right}
 use Rattle.image.specs.Numbers.{data_kind, read_only_kind, bss_kind}
 use Rattle.image.specs.Layout.{sections, section_at}
 use Rattle.image.specs.Rules.{end_of, tables_sound, data_inside}
-use Rattle.lookups.specs.declared.MaybeWord.TheVariants.{Read}
 use Rattle.lookups.specs.Bytes.{has_data, data_from, offset_in, word_at}
 use Rattle.image.proofs.SoundTables.{sound_tables}
 use Rattle.image.proofs.SectionLaws.{section_at_lem}
@@ -53,7 +53,7 @@ in_table ws p t e =
 -- the section has four bytes of data at each place before its end less 4
 pub word_there : (ws bs : List ℕ) (p : SectionAddress) (a : ℕ) → tables_sound ws ≡ true → data_inside ws (length bs) ≡ true → is_table ws p ≡ true
     → p.address ≤ a → a + 4 ≤ end_of (section_at ws p.section)
-    → word_at ws bs (record { section = p.section; address = a }) ≡ Read (be32 (data_from ws bs (record { section = p.section; address = a })) 0)
+    → word_at ws bs (record { section = p.section; address = a }) ≡ Some (be32 (data_from ws bs (record { section = p.section; address = a })) 0)
 word_there ws bs p a t d e l h =
     let i = in_table ws p t e in
     let s = section_at ws p.section in

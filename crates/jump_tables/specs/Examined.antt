@@ -1,9 +1,8 @@
 -- The words of a table that are looked at: up to the one that stops or is bad, itself included.
 -- Assumes nothing.
-use Rattle.std.specs.Prelude.{ℕ, zero, suc, ◌+◌, ◌-◌, ◌/◌, ◌%◌, List, eqb}
+use Rattle.std.specs.Prelude.{ℕ, zero, suc, ◌+◌, ◌-◌, ◌/◌, ◌%◌, List, eqb, Option}
 use Rattle.words.specs.Choice.{pick}
 use Rattle.places.specs.declared.SectionAddress.{SectionAddress}
-use Rattle.places.specs.declared.MaybeAddress.{MaybeAddress}
 use Rattle.image.specs.Layout.{section_at}
 use Rattle.image.specs.Rules.{end_of}
 use Rattle.jump_tables.specs.declared.How.TheVariants.{Sized, Guessed}
@@ -25,7 +24,7 @@ examined f zero i = 0
 examined f (suc n) i = suc (on_good (f i) (examined f n (suc i)))
 
 -- of a table: none outside Data and ReadOnly, and none of a ragged one
-unfoldable pub words_examined : List ℕ → List ℕ → SectionAddress → ℕ → SectionAddress → MaybeAddress → ℕ
+unfoldable pub words_examined : List ℕ → List ℕ → SectionAddress → ℕ → SectionAddress → Option SectionAddress → ℕ
 words_examined ws bs p n start e =
     pick (is_table ws p)
     (pick (eqb (size_of ws p n) 0)

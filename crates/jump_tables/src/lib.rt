@@ -3,10 +3,10 @@
 #![tactic(auto)]
 
 ghost use Rattle.std.specs.Prelude.{◌≡◌};
-ghost use Rattle.jump_tables.specs.Tables.{table_of};
+ghost use Rattle.jump_tables.specs.Tables.{error_number, table_of};
 
-use image::{Judged, check_image};
-use places::{MaybeAddress, SectionAddress};
+use image::check_image;
+use places::SectionAddress;
 
 pub mod keys;
 pub mod readings;
@@ -15,11 +15,11 @@ pub mod tables;
 pub use readings::{guessed_reading, sized_reading};
 pub use tables::table_in;
 
-// How a table is read: by its size, or guessed within a function's start and its end, which may be missing.
+// How a table is read: by its size, or guessed within a function's start and its end, which may be missing. No Option: each is a way to read.
 #[derive(Clone, Copy)]
 pub enum How {
     Sized,
-    Guessed(SectionAddress, MaybeAddress),
+    Guessed(SectionAddress, Option<SectionAddress>),
 }
 
 // What a word of a table means.
@@ -36,28 +36,33 @@ pub enum Reading {
     Entry(SectionAddress),
 }
 
-// How many entries a buffer holds, and whether one more was met that it has no room for.
-#[derive(Clone, Copy)]
-pub struct Held {
-    pub count: usize,
-    pub over: bool,
-}
-
-// Document 01's numbers: 1, 7, 8, 9, 10; and 0 for a table that was read.
-#[derive(Clone, Copy)]
-pub enum TableAnswer {
+// Why a table is refused: document 01's 1, 7, 8, 9, 10.
+#[derive(Clone, Copy, PartialEq, Eq)]
+pub enum TableError {
     Broken,
     RelocationError,
     Ragged,
     PointsNowhere,
     Full,
-    Read,
 }
 
-// The answer; where the table was read, how many entries it has and the bytes passed.
+impl From<TableError> for u32 {
+    ghost from_gives = { λ e n. n ≡ error_number e };
+
+    fn from(e: TableError) -> u32 {
+        match e {
+            TableError::Broken => 1,
+            TableError::RelocationError => 7,
+            TableError::Ragged => 8,
+            TableError::PointsNowhere => 9,
+            TableError::Full => 10,
+        }
+    }
+}
+
+// How many entries a table has, and the bytes passed.
 #[derive(Clone, Copy)]
 pub struct Table {
-    pub answer: TableAnswer,
     pub count: usize,
     pub size: u32,
 }
@@ -72,18 +77,14 @@ pub fn uniq_jump_table_entries(
     at: SectionAddress,
     size: u32,
     start: SectionAddress,
-    end: MaybeAddress,
+    end: Option<SectionAddress>,
     entries: &mut [u64],
-) -> Table
+) -> Result<Table, TableError>
     ensures value { result ≡ (table_of im.now bytes.now at size start end entries.old).table }
     ensures buffer { entries.new ≡ (table_of im.now bytes.now at size start end entries.old).keys }
 {
     match check_image(im, bytes) {
-        Judged::Broken => Table {
-            answer: TableAnswer::Broken,
-            count: 0,
-            size: 0,
-        },
-        Judged::Sound => table_in(im, bytes, at, size, start, end, entries),
+        Err(_) => Err(TableError::Broken),
+        Ok(()) => table_in(im, bytes, at, size, start, end, entries),
     }
 }

@@ -6,9 +6,8 @@ ghost use Rattle.jump_tables.specs.Readings.{bare_entry, in_function, sized_targ
 
 use crate::{How, Reading};
 use image::numbers::EXECUTABLE;
-use lookups::{MaybeWord, Relocation, Wanted, at_address, read_u32, relocation_target_for};
-use places::{MaybeAddress, RelocationTarget, SectionAddress, is_before};
-use search::Found;
+use lookups::{Wanted, at_address, read_u32, relocation_target_for};
+use places::{RelocationTarget, SectionAddress, is_before};
 
 // The word at a place of a table whose size is known: Faulty (7), Nowhere (9), Skipped for a bare 0, or its Entry. Stopped
 // only where the section has no word there.
@@ -17,9 +16,9 @@ pub fn sized_reading(im: &[u32], bytes: &[u8], p: SectionAddress) -> Reading
     ensures { result ≡ sized_reading im.now bytes.now p }
 {
     match relocation_target_for(im, p, Wanted::Absolute) {
-        Relocation::Error => Reading::Faulty,
-        Relocation::To(t) => sized_target(t),
-        Relocation::Nothing => sized_word(im, read_u32(im, bytes, p)),
+        Err(_) => Reading::Faulty,
+        Ok(Some(t)) => sized_target(t),
+        Ok(None) => sized_word(im, read_u32(im, bytes, p)),
     }
 }
 
@@ -28,16 +27,16 @@ pub fn guessed_reading(
     im: &[u32],
     bytes: &[u8],
     start: SectionAddress,
-    end: MaybeAddress,
+    end: Option<SectionAddress>,
     p: SectionAddress,
 ) -> Reading
     requires { (tables_sound im.now ≡ true) × (data_inside im.now (length bytes.now) ≡ true) }
     ensures { result ≡ guessed_reading im.now bytes.now start end p }
 {
     match relocation_target_for(im, p, Wanted::Absolute) {
-        Relocation::Error => Reading::Faulty,
-        Relocation::To(t) => guessed_target(t, start, end),
-        Relocation::Nothing => guessed_word(im, read_u32(im, bytes, p), start, end),
+        Err(_) => Reading::Faulty,
+        Ok(Some(t)) => guessed_target(t, start, end),
+        Ok(None) => guessed_word(im, read_u32(im, bytes, p), start, end),
     }
 }
 
@@ -61,7 +60,11 @@ fn sized_target(t: RelocationTarget) -> Reading
     }
 }
 
-fn guessed_target(t: RelocationTarget, start: SectionAddress, end: MaybeAddress) -> Reading
+fn guessed_target(
+    t: RelocationTarget,
+    start: SectionAddress,
+    end: Option<SectionAddress>,
+) -> Reading
     ensures { result ≡ guessed_target start end t }
 {
     match t {
@@ -70,62 +73,67 @@ fn guessed_target(t: RelocationTarget, start: SectionAddress, end: MaybeAddress)
     }
 }
 
-fn sized_word(im: &[u32], w: MaybeWord) -> Reading
+fn sized_word(im: &[u32], w: Option<u32>) -> Reading
     requires { tables_sound im.now ≡ true }
     ensures { result ≡ sized_word im.now w }
 {
-    let MaybeWord::Read(v) = w else {
+    let Some(v) = w else {
         return Reading::Stopped;
     };
     if v == 0 {
         return Reading::Skipped;
     }
     match bare_entry(im, v) {
-        MaybeAddress::At(a) => Reading::Entry(a),
-        MaybeAddress::Nowhere => Reading::Nowhere,
+        Some(a) => Reading::Entry(a),
+        None => Reading::Nowhere,
     }
 }
 
-fn guessed_word(im: &[u32], w: MaybeWord, start: SectionAddress, end: MaybeAddress) -> Reading
+fn guessed_word(
+    im: &[u32],
+    w: Option<u32>,
+    start: SectionAddress,
+    end: Option<SectionAddress>,
+) -> Reading
     requires { tables_sound im.now ≡ true }
     ensures { result ≡ guessed_word im.now start end w }
 {
-    let MaybeWord::Read(v) = w else {
+    let Some(v) = w else {
         return Reading::Stopped;
     };
     match bare_entry(im, v) {
-        MaybeAddress::At(a) => in_function(start, end, a),
-        MaybeAddress::Nowhere => Reading::Stopped,
+        Some(a) => in_function(start, end, a),
+        None => Reading::Stopped,
     }
 }
 
 // The place that a bare word names: in an Executable by the first section that holds it, in a Relocatable none.
-fn bare_entry(im: &[u32], v: u32) -> MaybeAddress
+fn bare_entry(im: &[u32], v: u32) -> Option<SectionAddress>
     requires { tables_sound im.now ≡ true }
     ensures { result ≡ bare_entry im.now v }
 {
     if im[0] != EXECUTABLE {
-        return MaybeAddress::Nowhere;
+        return None;
     }
     match at_address(im, v) {
-        Found::At(i) => MaybeAddress::At(SectionAddress {
+        Some(i) => Some(SectionAddress {
             section: i as u32,
             address: v,
         }),
-        Found::Nothing => MaybeAddress::Nowhere,
+        None => None,
     }
 }
 
 // A target before the function's start, or at or past its end, stops the guess.
-fn in_function(start: SectionAddress, end: MaybeAddress, t: SectionAddress) -> Reading
+fn in_function(start: SectionAddress, end: Option<SectionAddress>, t: SectionAddress) -> Reading
     ensures { result ≡ in_function start end t }
 {
     if is_before(t, start) {
         return Reading::Stopped;
     }
     match end {
-        MaybeAddress::Nowhere => Reading::Entry(t),
-        MaybeAddress::At(e) => {
+        None => Reading::Entry(t),
+        Some(e) => {
             if is_before(t, e) {
                 Reading::Entry(t)
             } else {

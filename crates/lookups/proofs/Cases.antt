@@ -1,21 +1,21 @@
 -- One image that breaks no rule, and what the lookups find in it, by computation: its tables hold each of document 01's
 -- corners. Assumes nothing.
+use Rattle.std.specs.Prelude.{Ok, Err, Some, None}
 use mathlib.Core.Path.{◌≡◌, refl}
 use mathlib.Core.Bool.{true}
 use mathlib.Core.List.{List, [], ◌∷◌}
 use Prim.Native.Nat.{ℕ}
 use Rattle.places.specs.declared.SectionAddress.{SectionAddress}
 use Rattle.places.specs.declared.RelocationTarget.TheVariants.{External, Address}
-use Rattle.places.specs.declared.MaybeTarget.TheVariants.{Missing, Known}
 use Rattle.search.specs.Every.{every}
 use Rattle.search.specs.First.{first_from}
 use Rattle.image.specs.Rules.{sections_sound, elf_distinct, sections_apart, words_before, bounds_sound, ascending, unbounds_sound, symbols_sound, tables_sound}
 use Rattle.lookups.specs.declared.Wanted.TheVariants.{Any, Absolute, Other}
-use Rattle.lookups.specs.declared.Relocation.TheVariants.{Nothing, Error, To}
-use Rattle.lookups.specs.declared.CodePlace.TheVariants.{NotCode, Misaligned, Fine}
 use Rattle.lookups.specs.Sections.{known_size}
 use Rattle.lookups.specs.Relocations.{relocation_for, section_address_for}
 use Rattle.lookups.specs.Code.{code_place, word_number}
+use Rattle.lookups.specs.declared.PlaceError.TheVariants.{Misaligned, NotCode}
+use Rattle.lookups.specs.Relocations.{relocation_error}
 
 abbrev at : ℕ → ℕ → SectionAddress
 at s a = record { section = s; address = a }
@@ -41,29 +41,29 @@ is_sound : tables_sound tables ≡ true
 unfolding tables_sound sections_sound elf_distinct sections_apart words_before bounds_sound ascending unbounds_sound symbols_sound every first_from
 is_sound = refl
 
-signed_addend : relocation_for tables (at 0 0x80003004) Any ≡ To (Address (at 1 0x80003FFC))
+signed_addend : relocation_for tables (at 0 0x80003004) Any ≡ Ok (Some (Address (at 1 0x80003FFC)))
 unfolding relocation_for first_from
 signed_addend = refl
 
-kind_before_external : (relocation_for tables (at 0 0x80003008) Absolute ≡ Error) × (relocation_for tables (at 0 0x80003008) Other ≡ To External)
+kind_before_external : (relocation_for tables (at 0 0x80003008) Absolute ≡ Err relocation_error) × (relocation_for tables (at 0 0x80003008) Other ≡ Ok (Some External))
 unfolding relocation_for first_from
 kind_before_external = (refl, refl)
 
-external_before_kind_and_first_match : relocation_for tables (at 0 0x8000300C) Absolute ≡ To External
+external_before_kind_and_first_match : relocation_for tables (at 0 0x8000300C) Absolute ≡ Ok (Some External)
 unfolding relocation_for first_from
 external_before_kind_and_first_match = refl
 
-sum_of_2^32 : relocation_for tables (at 1 0x80004000) Absolute ≡ Error
+sum_of_2^32 : relocation_for tables (at 1 0x80004000) Absolute ≡ Err relocation_error
 unfolding relocation_for first_from
 sum_of_2^32 = refl
 
-in_no_section : relocation_for tables (at 2 0x80004000) Any ≡ Nothing
+in_no_section : relocation_for tables (at 2 0x80004000) Any ≡ Ok None
 unfolding relocation_for first_from
 in_no_section = refl
 
-values : (section_address_for tables (at 0 0x80003000) 0x80004007 ≡ Known (Address (at 1 0x80004007)))
-    × (section_address_for tables (at 0 0x80003000) 0x80004008 ≡ Missing)
-    × (section_address_for tables (at 0 0x80003008) 0x80003000 ≡ Known External)
+values : (section_address_for tables (at 0 0x80003000) 0x80004007 ≡ Some (Address (at 1 0x80004007)))
+    × (section_address_for tables (at 0 0x80003000) 0x80004008 ≡ None)
+    × (section_address_for tables (at 0 0x80003008) 0x80003000 ≡ Some External)
 unfolding section_address_for relocation_for first_from
 values = (refl, refl, refl)
 
@@ -71,8 +71,8 @@ symbol_size : (known_size tables (at 1 0x80004000) ≡ 8) × (known_size tables 
 unfolding first_from
 symbol_size = (refl, refl)
 
-places : (code_place tables (at 0 0x8000300C) ≡ Fine) × (code_place tables (at 0 0x8000300E) ≡ Misaligned) × (code_place tables (at 0 0x80003010) ≡ NotCode)
-    × (code_place tables (at 1 0x80004000) ≡ NotCode)
+places : (code_place tables (at 0 0x8000300C) ≡ Ok tt) × (code_place tables (at 0 0x8000300E) ≡ Err Misaligned) × (code_place tables (at 0 0x80003010) ≡ Err NotCode)
+    × (code_place tables (at 1 0x80004000) ≡ Err NotCode)
 places = (refl, refl, refl, refl)
 
 number : word_number tables (at 0 0x8000300C) ≡ 3

@@ -1,5 +1,6 @@
 -- The word at an aligned place of code: its four bytes are in the buffer, and they are what reading a section gives.
 -- Assumes nothing.
+use Rattle.std.specs.Prelude.{Result, Ok, Err, ⊤, Some}
 use mathlib.Core.Path.{◌≡◌, refl, ◌∙◌}
 use mathlib.Core.Bool.{Bool, true, false}
 use mathlib.Core.List.{List}
@@ -15,19 +16,19 @@ use Rattle.words.specs.Bytes.{be32}
 use Rattle.places.specs.declared.SectionAddress.{SectionAddress}
 use Rattle.image.specs.Layout.{sections, section_at}
 use Rattle.image.specs.Rules.{end_of, tables_sound, data_inside}
-use Rattle.lookups.specs.declared.CodePlace.TheVariants.{NotCode, Misaligned, Fine}
-use Rattle.lookups.specs.declared.MaybeWord.TheVariants.{Read}
 use Rattle.lookups.specs.Bytes.{offset_in, has_data, word_at}
 use Rattle.lookups.specs.Code.{in_code, code_place}
 use Rattle.lookups.proofs.SoundSections.{InCode, in_code_lem, HasData, has_data_lem}
+use Rattle.lookups.specs.declared.PlaceError.TheVariants.{Misaligned, NotCode}
+use Rattle.lookups.specs.declared.PlaceError.{PlaceError}
 
 -- a fine place is in code and aligned
-by_tests : (c a : Bool) → pick c (pick a Fine Misaligned) NotCode ≡ Fine → (c ≡ true) × (a ≡ true)
+by_tests : (c a : Bool) → ◌≡◌ {A = Result ⊤ PlaceError} (pick c (pick a (Ok tt) (Err Misaligned)) (Err NotCode)) (Ok tt) → (c ≡ true) × (a ≡ true)
 by_tests true true e = (refl, refl)
 by_tests true false e = let z : ◌≡◌ {A = ℕ} 0 1 = cc in absurd (omega arith)
 by_tests false a e = let z : ◌≡◌ {A = ℕ} 0 1 = cc in absurd (omega arith)
 
-pub fine_place : (ws : List ℕ) (p : SectionAddress) → code_place ws p ≡ Fine → (in_code ws p ≡ true) × (p.address % 4 ≡ 0)
+pub fine_place : (ws : List ℕ) (p : SectionAddress) → code_place ws p ≡ Ok tt → (in_code ws p ≡ true) × (p.address % 4 ≡ 0)
 fine_place ws p e =
     let both = by_tests (in_code ws p) (eqb (p.address % 4) 0) e in
     (both.0, eqb-true _ _ both.1)
@@ -46,7 +47,7 @@ pub record CodeBytes (ws : List ℕ) (n : ℕ) (p : SectionAddress) : Type 0 whe
   pub has : has_data ws p ≡ true
   pub room : p.address + 4 ≤ end_of (section_at ws p.section)
 
-pub code_bytes : (ws : List ℕ) (n : ℕ) (p : SectionAddress) → tables_sound ws ≡ true → data_inside ws n ≡ true → code_place ws p ≡ Fine → CodeBytes ws n p
+pub code_bytes : (ws : List ℕ) (n : ℕ) (p : SectionAddress) → tables_sound ws ≡ true → data_inside ws n ≡ true → code_place ws p ≡ Ok tt → CodeBytes ws n p
 code_bytes ws n p t d e =
     let fine = fine_place ws p e in
     let c = in_code_lem ws p t fine.0 in
@@ -66,7 +67,7 @@ word_of_part : (bs : List ℕ) (o n : ℕ) → 4 ≤ n → be32 (take n (drop o 
 word_of_part bs o n h =
     rw (byte_of_part bs o n 0 (omega arith), byte_of_part bs o n 1 (omega arith), byte_of_part bs o n 2 (omega arith), byte_of_part bs o n 3 (omega arith), add-zero o)
 
-pub code_word_at : (ws bs : List ℕ) (p : SectionAddress) → CodeBytes ws (length bs) p → word_at ws bs p ≡ Read (be32 bs (offset_in ws p.section p.address))
+pub code_word_at : (ws bs : List ℕ) (p : SectionAddress) → CodeBytes ws (length bs) p → word_at ws bs p ≡ Some (be32 bs (offset_in ws p.section p.address))
 code_word_at ws bs p c =
     let o : ℕ = offset_in ws p.section p.address in
     let n : ℕ = end_of (section_at ws p.section) - p.address in

@@ -1,5 +1,6 @@
 -- In strictly ascending places the match that a search by halves finds is the first match, and the only one: once over
 -- the places, as a function of their index, then for places in a table of words. Assumes nothing.
+use Rattle.std.specs.Prelude.{Some, None}
 use mathlib.Core.Path.{◌≡◌, sym, ◌∙◌, subst}
 use mathlib.Core.Bool.{true, false}
 use mathlib.Core.List.{List}
@@ -12,7 +13,6 @@ use mir.Syntax.{w32}
 use mir.Val.{Fits}
 use Rattle.places.specs.declared.SectionAddress.{SectionAddress}
 use Rattle.search.specs.First.{first}
-use Rattle.search.specs.declared.Found.TheVariants.{At, Nothing}
 use Rattle.search.proofs.FirstMatch.{first_at, first_none}
 use Rattle.image.specs.Rules.{ascending}
 use Rattle.lookups.specs.Keys.{key_at, places_at, here_of}
@@ -60,13 +60,13 @@ module _ (at : ℕ → SectionAddress) (n : ℕ) (p : SectionAddress) (f : (j : 
   other lo hi h m l ne j b (no d) =
       not_here_key at p j (other_at_or_after lo j l (h.others lo m l) ne (omega arith) b (dec_lt lo j))
 
-  pub halves_hit : (lo hi : ℕ) → Halves (λ (j : ℕ). key (at j)) n (key p) lo hi → lo < n → key (at lo) ≡ key p → first (here_of at p) n ≡ At lo
+  pub halves_hit : (lo hi : ℕ) → Halves (λ (j : ℕ). key (at j)) n (key p) lo hi → lo < n → key (at lo) ≡ key p → first (here_of at p) n ≡ Some lo
   halves_hit lo hi h l e = first_at (here_of at p) n lo l (other_before lo hi h) (here_key at p lo (f lo) g e)
 
-  pub halves_miss : (lo hi : ℕ) → Halves (λ (j : ℕ). key (at j)) n (key p) lo hi → hi ≤ lo → lo < n → (key (at lo) ≡ key p → ⊥) → first (here_of at p) n ≡ Nothing
+  pub halves_miss : (lo hi : ℕ) → Halves (λ (j : ℕ). key (at j)) n (key p) lo hi → hi ≤ lo → lo < n → (key (at lo) ≡ key p → ⊥) → first (here_of at p) n ≡ None
   halves_miss lo hi h m l ne = first_none (here_of at p) n (λ j b. other lo hi h m l ne j b (dec_lt j lo))
 
-  pub halves_end : (lo hi : ℕ) → Halves (λ (j : ℕ). key (at j)) n (key p) lo hi → n ≤ lo → first (here_of at p) n ≡ Nothing
+  pub halves_end : (lo hi : ℕ) → Halves (λ (j : ℕ). key (at j)) n (key p) lo hi → n ≤ lo → first (here_of at p) n ≡ None
   halves_end lo hi h l = first_none (here_of at p) n (λ j b. other_before lo hi h j (omega arith))
 
 -- a table of places: each lies inside the words where they all do
@@ -98,14 +98,14 @@ module _ (ws : List ℕ) (from stride n : ℕ) (fits : (i : ℕ) → Fits w32 (g
   wanted p k lo hi e h = subst (λ (q : ℕ). Halves (keys_at ws from stride) n q lo hi) e h
 
   pub table_end : (p : SectionAddress) (k lo hi : ℕ) → (k ≡ key p) × (p.address < 2 ^ 32) → Halves (keys_at ws from stride) n k lo hi → n ≤ lo
-      → first (here_of (places_at ws from stride) p) n ≡ Nothing
+      → first (here_of (places_at ws from stride) p) n ≡ None
   table_end p k lo hi w h l = halves_end (places_at ws from stride) n p addresses_fit w.1 ascend lo hi (wanted p k lo hi w.0 h) l
 
   pub table_hit : (p : SectionAddress) (k lo hi x : ℕ) → (k ≡ key p) × (p.address < 2 ^ 32) → Halves (keys_at ws from stride) n k lo hi → lo < n
-      → x ≡ keys_at ws from stride lo → x ≡ k → first (here_of (places_at ws from stride) p) n ≡ At lo
+      → x ≡ keys_at ws from stride lo → x ≡ k → first (here_of (places_at ws from stride) p) n ≡ Some lo
   table_hit p k lo hi x w h l e s = halves_hit (places_at ws from stride) n p addresses_fit w.1 ascend lo hi (wanted p k lo hi w.0 h) l (sym e ∙ s ∙ w.0)
 
   pub table_miss : (p : SectionAddress) (k lo hi x : ℕ) → (k ≡ key p) × (p.address < 2 ^ 32) → Halves (keys_at ws from stride) n k lo hi → hi ≤ lo → lo < n
-      → x ≡ keys_at ws from stride lo → (x ≡ k → ⊥) → first (here_of (places_at ws from stride) p) n ≡ Nothing
+      → x ≡ keys_at ws from stride lo → (x ≡ k → ⊥) → first (here_of (places_at ws from stride) p) n ≡ None
   table_miss p k lo hi x w h m l e s =
       halves_miss (places_at ws from stride) n p addresses_fit w.1 ascend lo hi (wanted p k lo hi w.0 h) m l (λ q. s (e ∙ q ∙ sym w.0))

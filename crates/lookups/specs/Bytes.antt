@@ -1,14 +1,12 @@
 -- A section's bytes in the lent buffer.
 -- Assumes nothing.
-use Rattle.std.specs.Prelude.{ℕ, ◌+◌, ◌-◌, Bool, ◌&&◌, not, List, [], take, drop, length, ltb, leb, eqb}
+use Rattle.std.specs.Prelude.{ℕ, ◌+◌, ◌-◌, Bool, ◌&&◌, not, List, [], take, drop, length, ltb, leb, eqb, Option, Some, None}
 use Rattle.words.specs.Choice.{pick}
 use Rattle.words.specs.Bytes.{be32}
 use Rattle.places.specs.declared.SectionAddress.{SectionAddress}
 use Rattle.image.specs.Numbers.{bss_kind}
 use Rattle.image.specs.Layout.{sections, section_at}
 use Rattle.image.specs.Rules.{holds, end_of}
-use Rattle.lookups.specs.declared.MaybeWord.{MaybeWord}
-use Rattle.lookups.specs.declared.MaybeWord.TheVariants.{Missing, Read}
 
 -- where the byte of section i at an address stands in the buffer
 abbrev pub offset_in : List ℕ → ℕ → ℕ → ℕ
@@ -31,5 +29,5 @@ abbrev pub data_offset : List ℕ → SectionAddress → ℕ
 data_offset ws p = pick (has_data ws p) (offset_in ws p.section p.address) 0
 
 -- the word at a place, where its section has four bytes of data from there on
-abbrev pub word_at : List ℕ → List ℕ → SectionAddress → MaybeWord
-word_at ws bs p = pick (leb 4 (length (data_from ws bs p))) (Read (be32 (data_from ws bs p) 0)) Missing
+abbrev pub word_at : List ℕ → List ℕ → SectionAddress → Option ℕ
+word_at ws bs p = pick (leb 4 (length (data_from ws bs p))) (Some (be32 (data_from ws bs p) 0)) None

@@ -1,10 +1,9 @@
 -- Sections by address, and object symbols.
 -- Assumes nothing.
-use Rattle.std.specs.Prelude.{ℕ, ◌+◌, Bool, ◌&&◌, List, leb, ltb, eqb}
+use Rattle.std.specs.Prelude.{ℕ, ◌+◌, Bool, ◌&&◌, List, leb, ltb, eqb, Option}
 use Rattle.words.specs.Choice.{pick}
 use Rattle.places.specs.declared.SectionAddress.{SectionAddress}
 use Rattle.search.specs.First.{first, on_found}
-use Rattle.search.specs.declared.Found.{Found}
 use Rattle.image.specs.Layout.{sections, symbols, section_at, symbol_at}
 use Rattle.image.specs.Rules.{holds}
 
@@ -16,14 +15,14 @@ within address size a = leb address a && ltb a (address + size)
 abbrev pub held : List ℕ → ℕ → ℕ → Bool
 held ws a i = holds (section_at ws i) a
 
-abbrev pub at_address : List ℕ → ℕ → Found
+abbrev pub at_address : List ℕ → ℕ → Option ℕ
 at_address ws a = first (held ws a) (sections ws)
 
 -- the object symbol at a place
 abbrev pub symbol_here : List ℕ → SectionAddress → ℕ → Bool
 symbol_here ws p j = eqb (symbol_at ws j).section p.section && eqb (symbol_at ws j).address p.address
 
-abbrev pub symbol_index : List ℕ → SectionAddress → Found
+abbrev pub symbol_index : List ℕ → SectionAddress → Option ℕ
 symbol_index ws p = first (symbol_here ws p) (symbols ws)
 
 -- its size where that is known, else 0; a known size of 0 counts as none

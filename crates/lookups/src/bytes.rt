@@ -4,7 +4,6 @@ ghost use Rattle.std.specs.Prelude.{◌≡◌, true, ◌+◌, ◌-◌, ◌≤◌
 ghost use Rattle.image.specs.Rules.{tables_sound, data_inside};
 ghost use Rattle.lookups.specs.Bytes.{has_data, data_from, data_offset, word_at};
 
-use crate::MaybeWord;
 use crate::sections::is_within;
 use image::numbers::BSS;
 use image::table::{section, section_count};
@@ -26,15 +25,15 @@ pub fn data_from<'a>(im: &[u32], bytes: &'a [u8], at: SectionAddress) -> &'a [u8
 }
 
 // The big-endian word at a place, where its section has four bytes of data from there on.
-pub fn read_u32(im: &[u32], bytes: &[u8], at: SectionAddress) -> MaybeWord
+pub fn read_u32(im: &[u32], bytes: &[u8], at: SectionAddress) -> Option<u32>
     requires { (tables_sound im.now ≡ true) × (data_inside im.now (length bytes.now) ≡ true) }
     ensures { result ≡ word_at im.now bytes.now at }
 {
     let d = data_from(im, bytes, at);
     if d.len() < 4 {
-        return MaybeWord::Missing;
+        return None;
     }
-    MaybeWord::Read(four(d, 0))
+    Some(four(d, 0))
 }
 
 // Whether a place has data: its section exists, is no Bss and holds the address.
@@ -47,10 +46,7 @@ fn has_data(im: &[u32], at: SectionAddress) -> bool
         return false;
     }
     let s = section(im, i);
-    if s.kind == BSS {
-        return false;
-    }
-    is_within(s.address, s.size, at.address)
+    s.kind != BSS && is_within(s.address, s.size, at.address)
 }
 
 // The bytes of a section of that address, size and place in the buffer, from an address in it to its end.

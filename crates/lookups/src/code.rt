@@ -1,12 +1,12 @@
 // Places of code, and the numbers of Code words.
 // Requires sound tables.
-ghost use Rattle.std.specs.Prelude.{◌≡◌, true, length};
+ghost use Rattle.std.specs.Prelude.{◌≡◌, true, length, Ok, Some};
 ghost use Rattle.image.specs.Rules.{tables_sound, data_inside};
 ghost use Rattle.lookups.specs.Bytes.{word_at};
 ghost use Rattle.lookups.specs.Code.{in_code, code_place, word_number};
 
 use crate::sections::is_within;
-use crate::{CodePlace, MaybeWord, WordNumber};
+use crate::{PlaceError, WordNumber};
 use image::code::words_before;
 use image::numbers::CODE;
 use image::table::{section, section_count};
@@ -14,18 +14,19 @@ use places::SectionAddress;
 use words::bytes::four;
 
 // NotCode (2) unless the place's own section exists, is Code and holds it; then Misaligned (3) unless its address is a
-// multiple of 4; else Fine.
-pub fn code_place(im: &[u32], at: SectionAddress) -> CodePlace
+// multiple of 4; else Ok.
+pub fn code_place(im: &[u32], at: SectionAddress) -> Result<(), PlaceError>
     requires { tables_sound im.now ≡ true }
     ensures { result ≡ code_place im.now at }
 {
-    if is_in_code(im, at) {
-        if at.address % 4 == 0 {
-            return CodePlace::Fine;
-        }
-        return CodePlace::Misaligned;
+    if !is_in_code(im, at) {
+        return Err(PlaceError::NotCode);
     }
-    CodePlace::NotCode
+    if at.address % 4 == 0 {
+        Ok(())
+    } else {
+        Err(PlaceError::Misaligned)
+    }
 }
 
 // Whether a place is in code: its own section exists, is Code and holds the address.
@@ -38,10 +39,7 @@ pub fn is_in_code(im: &[u32], at: SectionAddress) -> bool
         return false;
     }
     let s = section(im, i);
-    if s.kind != CODE {
-        return false;
-    }
-    is_within(s.address, s.size, at.address)
+    s.kind == CODE && is_within(s.address, s.size, at.address)
 }
 
 // The number of the Code word at a place of code: it is below W. It reads two words of each section before the place's own.
@@ -57,8 +55,8 @@ pub fn word_number(im: &[u32], at: SectionAddress) -> WordNumber
 
 // The word at an aligned place of code: two words of the tables and four bytes are read.
 pub fn code_word(im: &[u32], bytes: &[u8], at: SectionAddress) -> u32
-    requires { (tables_sound im.now ≡ true) × (data_inside im.now (length bytes.now) ≡ true) × (code_place im.now at ≡ CodePlace.Fine) }
-    ensures { MaybeWord.Read result ≡ word_at im.now bytes.now at }
+    requires { (tables_sound im.now ≡ true) × (data_inside im.now (length bytes.now) ≡ true) × (code_place im.now at ≡ Ok tt) }
+    ensures { Some result ≡ word_at im.now bytes.now at }
 {
     let i = at.section as usize;
     let from = im[i * 6 + 6];

@@ -1,6 +1,6 @@
 // Every lookup in an image, by the names of the Rust where it has them.
 // Each requires sound tables (image::check_image says so) and is called by our own crates alone.
-#![tactic(auto)]
+#![tactic(auto, using(image::proofs::SoundTables::laid, image::proofs::SoundTables::sound_tables, search::proofs::FirstMatch::first_below))]
 
 use places::RelocationTarget;
 
@@ -24,27 +24,18 @@ pub enum Wanted {
     Other,
 }
 
-// What a relocation lookup answers.
-#[derive(Clone, Copy)]
-pub enum Relocation {
-    Nothing,
-    Error,
-    To(RelocationTarget),
-}
+// What a relocation lookup answers: a target, or None where the tables have no entry.
+pub type Relocation = Result<Option<RelocationTarget>, RelocationError>;
 
-// A word that was read, or none.
-#[derive(Clone, Copy)]
-pub enum MaybeWord {
-    Missing,
-    Read(u32),
-}
+// An entry that names no place, or of another kind than was asked for.
+#[derive(Clone, Copy, Debug, PartialEq, Eq)]
+pub struct RelocationError;
 
-// A place judged as one of code.
-#[derive(Clone, Copy)]
-pub enum CodePlace {
+// Why a place is no code word: document 01's 2 and 3.
+#[derive(Clone, Copy, Debug, PartialEq, Eq)]
+pub enum PlaceError {
     NotCode,
     Misaligned,
-    Fine,
 }
 
 // The number of a Code word, counted in section order: its bit in a visited map. Never an address.

@@ -1,23 +1,21 @@
 // What the two relocation tables say of a place, and the place of a value.
 // Requires sound tables.
-ghost use Rattle.std.specs.Prelude.{◌≡◌, true, ◌+◌, ◌*◌, ◌≤◌, ◌<◌, length};
-ghost use Rattle.search.specs.First.{first};
-ghost use Rattle.image.specs.Layout.{unbounds_from};
+ghost use Rattle.std.specs.Prelude.{◌≡◌, true, ◌+◌, ◌*◌, ◌<◌, length};
 ghost use Rattle.image.specs.Rules.{tables_sound};
-ghost use Rattle.lookups.specs.Relocations.{differs, bound_target, entry_is, unbound_here, unbound_index, into_section, unbound_target, unbound_for, relocation_for, target_at, place_in, bare_address, section_address_for};
+ghost use Rattle.lookups.specs.Relocations.{differs, bound_target, entry_is, unbound_index, into_section, unbound_target, unbound_for, relocation_for, target_at, place_in, bare_address, section_address_for};
 
 use crate::sections::{at_address, is_within};
 use crate::sorted::bound_index;
-use crate::{Relocation, Wanted};
+use crate::{Relocation, RelocationError, Wanted};
 use image::elf::elf_index;
 use image::numbers::{ABSOLUTE, EXECUTABLE, NO_SECTION};
 use image::table::{bound, section, section_count, unbound, unbound_count, unbounds_from};
 use image::{Bound, Unbound};
-use places::{MaybeTarget, RelocationTarget, SectionAddress};
-use search::Found;
+use places::{RelocationTarget, SectionAddress};
+use search::first;
 use words::sum::wrapping_add;
 
-// What the tables say of a place: the bound one first, then the unbound one. Nothing where neither has an entry.
+// What the tables say of a place: the bound one first, then the unbound one. None where neither has an entry.
 // Error for another kind than the wanted one, for an unbound target in no section, and for an address of 2^32 or more.
 pub fn relocation_target_for(im: &[u32], at: SectionAddress, wanted: Wanted) -> Relocation
     requires { tables_sound im.now ≡ true }
@@ -25,59 +23,46 @@ pub fn relocation_target_for(im: &[u32], at: SectionAddress, wanted: Wanted) -> 
 {
     let i = at.section as usize;
     if section_count(im) <= i {
-        return Relocation::Nothing;
+        return Ok(None);
     }
     match bound_index(im, at) {
-        Found::At(j) => bound_target(bound(im, j), wanted),
-        Found::Nothing => unbound_target_for(im, section(im, i).elf, at.address, wanted),
+        Some(j) => bound_target(bound(im, j), wanted),
+        None => unbound_target_for(im, section(im, i).elf, at.address, wanted),
     }
 }
 
 // The relocation at a place, of any kind; an error counts as none.
-pub fn target_at(im: &[u32], at: SectionAddress) -> MaybeTarget
+pub fn target_at(im: &[u32], at: SectionAddress) -> Option<RelocationTarget>
     requires { tables_sound im.now ≡ true }
     ensures { result ≡ target_at im.now at }
 {
     match relocation_target_for(im, at, Wanted::Any) {
-        Relocation::To(t) => MaybeTarget::Known(t),
-        Relocation::Error => MaybeTarget::Missing,
-        Relocation::Nothing => MaybeTarget::Missing,
+        Ok(Some(t)) => Some(t),
+        Err(_) => None,
+        Ok(None) => None,
     }
 }
 
 // Where a value at an instruction points: the relocation there if any; else, Executable, the section that holds the
-// value; else the instruction's own section if it holds it; else Missing.
-pub fn section_address_for(im: &[u32], at: SectionAddress, value: u32) -> MaybeTarget
+// value; else the instruction's own section if it holds it; else None.
+pub fn section_address_for(im: &[u32], at: SectionAddress, value: u32) -> Option<RelocationTarget>
     requires { tables_sound im.now ≡ true }
     ensures { result ≡ section_address_for im.now at value }
 {
     match target_at(im, at) {
-        MaybeTarget::Known(t) => MaybeTarget::Known(t),
-        MaybeTarget::Missing => bare_address(im, at.section, value),
+        Some(t) => Some(t),
+        None => bare_address(im, at.section, value),
     }
 }
 
 // The index of the first unbound entry for a section's elf number and an address. First match is the paper's rule, and
 // the table is in no order: a place with no entry costs one read of each entry, 4,096 at most.
-pub fn unbound_index(im: &[u32], elf: u32, a: u32) -> Found
+pub fn unbound_index(im: &[u32], elf: u32, a: u32) -> Option<usize>
     requires { tables_sound im.now ≡ true }
     ensures { result ≡ unbound_index im.now elf a }
 {
-    first_unbound(im, unbounds_from(im), unbound_count(im), elf, a)
-}
-
-fn first_unbound(im: &[u32], from: usize, n: usize, elf: u32, a: u32) -> Found
-    requires { (from ≡ unbounds_from im.now) × (from + n * 6 ≤ length im.now) }
-    ensures { result ≡ first (unbound_here im.now elf a) n }
-{
-    let mut j: usize = 0;
-    while j < n {
-        if is_entry(im, from + j * 6, elf, a) {
-            return Found::At(j);
-        }
-        j += 1;
-    }
-    Found::Nothing
+    let from = unbounds_from(im);
+    first(unbound_count(im), |j| is_entry(im, from + j * 6, elf, a))
 }
 
 // Whether the entry that begins at a word is for that elf number and address. The address alone rules out most.
@@ -85,32 +70,29 @@ fn is_entry(im: &[u32], k: usize, elf: u32, a: u32) -> bool
     requires { k + 1 < length im.now }
     ensures { result ≡ entry_is im.now k elf a }
 {
-    if im[k + 1] != a {
-        return false;
-    }
-    im[k] == elf
+    im[k + 1] == a && im[k] == elf
 }
 
 // A value with no relocation: by the section that holds it in an Executable, else by section i alone.
-fn bare_address(im: &[u32], i: u32, value: u32) -> MaybeTarget
+fn bare_address(im: &[u32], i: u32, value: u32) -> Option<RelocationTarget>
     requires { tables_sound im.now ≡ true }
     ensures { result ≡ bare_address im.now i value }
 {
     if im[0] == EXECUTABLE {
         return match at_address(im, value) {
-            Found::At(k) => place_in(k, value),
-            Found::Nothing => MaybeTarget::Missing,
+            Some(k) => place_in(k, value),
+            None => None,
         };
     }
     let own = i as usize;
     if section_count(im) <= own {
-        return MaybeTarget::Missing;
+        return None;
     }
     let s = section(im, own);
     if is_within(s.address, s.size, value) {
         place_in(own, value)
     } else {
-        MaybeTarget::Missing
+        None
     }
 }
 
@@ -119,15 +101,15 @@ fn bound_target(r: Bound, wanted: Wanted) -> Relocation
     ensures { result ≡ bound_target wanted r }
 {
     if is_other(wanted, r.kind) {
-        return Relocation::Error;
+        return Err(RelocationError);
     }
     if r.symbol_section == NO_SECTION {
-        return Relocation::To(RelocationTarget::External);
+        return Ok(Some(RelocationTarget::External));
     }
-    Relocation::To(RelocationTarget::Address(SectionAddress {
+    Ok(Some(RelocationTarget::Address(SectionAddress {
         section: r.symbol_section,
         address: wrapping_add(r.symbol_address, r.addend),
-    }))
+    })))
 }
 
 // What the unbound table says of a section's elf number and an address.
@@ -135,8 +117,8 @@ fn unbound_target_for(im: &[u32], elf: u32, a: u32, wanted: Wanted) -> Relocatio
     requires { tables_sound im.now ≡ true }
     ensures { result ≡ unbound_for im.now elf a wanted }
 {
-    let Found::At(j) = unbound_index(im, elf, a) else {
-        return Relocation::Nothing;
+    let Some(j) = unbound_index(im, elf, a) else {
+        return Ok(None);
     };
     unbound_target(im, unbound(im, j), wanted)
 }
@@ -147,13 +129,13 @@ fn unbound_target(im: &[u32], r: Unbound, wanted: Wanted) -> Relocation
     ensures { result ≡ unbound_target im.now wanted r }
 {
     if r.module != im[1] {
-        return Relocation::To(RelocationTarget::External);
+        return Ok(Some(RelocationTarget::External));
     }
     if is_other(wanted, r.kind) {
-        return Relocation::Error;
+        return Err(RelocationError);
     }
-    let Found::At(i) = elf_index(im, r.target) else {
-        return Relocation::Error;
+    let Some(i) = elf_index(im, r.target) else {
+        return Err(RelocationError);
     };
     into_section(im, i, r.addend)
 }
@@ -165,12 +147,12 @@ fn into_section(im: &[u32], i: usize, addend: u32) -> Relocation
 {
     let from = section(im, i).address;
     if 0xffff_ffff - from < addend {
-        return Relocation::Error;
+        return Err(RelocationError);
     }
-    Relocation::To(RelocationTarget::Address(SectionAddress {
+    Ok(Some(RelocationTarget::Address(SectionAddress {
         section: i as u32,
         address: from + addend,
-    }))
+    })))
 }
 
 // Whether a kind is wanted and the entry's is another.
@@ -184,11 +166,11 @@ fn is_other(wanted: Wanted, kind: u32) -> bool
     }
 }
 
-fn place_in(i: usize, a: u32) -> MaybeTarget
+fn place_in(i: usize, a: u32) -> Option<RelocationTarget>
     requires { i < 64 }
     ensures { result ≡ place_in a i }
 {
-    MaybeTarget::Known(RelocationTarget::Address(SectionAddress {
+    Some(RelocationTarget::Address(SectionAddress {
         section: i as u32,
         address: a,
     }))

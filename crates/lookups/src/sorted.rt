@@ -9,10 +9,9 @@ ghost use Rattle.lookups.specs.Keys.{key_of, key_at, places_at, here_of};
 
 use image::table::{bound_count, bounds_from, symbol, symbol_count, symbols_from};
 use places::SectionAddress;
-use search::Found;
 
 // The bound relocation at a place, or none: some twelve comparisons in a table of 4,096.
-pub fn bound_index(im: &[u32], at: SectionAddress) -> Found
+pub fn bound_index(im: &[u32], at: SectionAddress) -> Option<usize>
     requires { tables_sound im.now ≡ true }
     ensures { result ≡ bound_index im.now at }
 {
@@ -20,7 +19,7 @@ pub fn bound_index(im: &[u32], at: SectionAddress) -> Found
 }
 
 // The object symbol at a place, or none, as cheaply.
-pub fn symbol_index(im: &[u32], at: SectionAddress) -> Found
+pub fn symbol_index(im: &[u32], at: SectionAddress) -> Option<usize>
     requires { tables_sound im.now ≡ true }
     ensures { result ≡ symbol_index im.now at }
 {
@@ -32,7 +31,7 @@ pub fn known_size(im: &[u32], at: SectionAddress) -> u32
     requires { tables_sound im.now ≡ true }
     ensures { result ≡ known_size im.now at }
 {
-    let Found::At(j) = symbol_index(im, at) else {
+    let Some(j) = symbol_index(im, at) else {
         return 0;
     };
     let s = symbol(im, j);
@@ -40,7 +39,13 @@ pub fn known_size(im: &[u32], at: SectionAddress) -> u32
 }
 
 // The place among n that begin at a word and stand a stride of words apart.
-fn index_by_halves(im: &[u32], from: usize, stride: usize, n: usize, at: SectionAddress) -> Found
+fn index_by_halves(
+    im: &[u32],
+    from: usize,
+    stride: usize,
+    n: usize,
+    at: SectionAddress,
+) -> Option<usize>
     requires le_stride { (2 ≤ stride) × (from + n * stride ≤ length im.now) }
     requires n_value { ascending (places_at im.now from stride) n ≡ true }
     ensures { result ≡ first (here_of (places_at im.now from stride) at) n }
@@ -48,6 +53,7 @@ fn index_by_halves(im: &[u32], from: usize, stride: usize, n: usize, at: Section
     let wanted = key(at.section, at.address);
     let mut lo: usize = 0;
     let mut hi: usize = n;
+    // By hand: the places are words of the lent image (the C interface), and no slice that the library could search.
     while lo < hi {
         let mid = lo + (hi - lo) / 2;
         if key_at(im, from + mid * stride) < wanted {
@@ -57,12 +63,12 @@ fn index_by_halves(im: &[u32], from: usize, stride: usize, n: usize, at: Section
         }
     }
     if n <= lo {
-        return Found::Nothing;
+        return None;
     }
     if key_at(im, from + lo * stride) == wanted {
-        Found::At(lo)
+        Some(lo)
     } else {
-        Found::Nothing
+        None
     }
 }
 

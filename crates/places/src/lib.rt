@@ -5,31 +5,18 @@
 ghost use Rattle.std.specs.Prelude.{◌≡◌};
 ghost use Rattle.places.specs.Places.{moved, before};
 
-#[derive(Clone, Copy)]
+// Places are ordered by section, then by address.
+#[derive(Clone, Copy, PartialEq, Eq, PartialOrd, Ord)]
 pub struct SectionAddress {
     pub section: u32,
     pub address: u32,
 }
 
-// What a relocation points to.
+// What a relocation points to. The Rust's own enum, no Option: External is a target too.
 #[derive(Clone, Copy)]
 pub enum RelocationTarget {
     External,
     Address(SectionAddress),
-}
-
-// A place, or none.
-#[derive(Clone, Copy)]
-pub enum MaybeAddress {
-    Nowhere,
-    At(SectionAddress),
-}
-
-// A target, or none.
-#[derive(Clone, Copy)]
-pub enum MaybeTarget {
-    Missing,
-    Known(RelocationTarget),
 }
 
 // The place n bytes on: only the address part changes, modulo 2^32.
@@ -46,6 +33,5 @@ pub fn offset(p: SectionAddress, n: u32) -> SectionAddress
 pub fn is_before(a: SectionAddress, b: SectionAddress) -> bool
     ensures { result ≡ before a b }
 {
-    let same = a.section == b.section;
-    (a.section < b.section) | (same & (a.address < b.address))
+    a < b
 }

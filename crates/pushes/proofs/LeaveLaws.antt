@@ -1,35 +1,41 @@
 -- What a word that leaves asks was done: by how it leaves.
 -- Assumes words that hold a stack, and an entry buffer of the walk's length.
+use Rattle.std.specs.Prelude.{Option}
 use Prim.Native.Nat.{ℕ}
 use mathlib.Core.Path.{◌≡◌, refl, sym, ap, ◌∙◌, subst}
 use mathlib.Core.Bool.{true, false}
 use mathlib.Core.List.{List, [], ◌∷◌}
+use mathlib.Core.Logic.{◌⊎◌, inl, inr}
 use native.Mathlib.Omega.{arith}
 use lib.ListN.{length}
 use Rattle.places.specs.declared.SectionAddress.{SectionAddress}
-use Rattle.places.specs.declared.MaybeAddress.{MaybeAddress}
 use Rattle.places.specs.declared.RelocationTarget.TheVariants as target
 use Rattle.vm.specs.declared.VM.{VM}
 use Rattle.vm.specs.declared.BranchTarget.{BranchTarget}
 use Rattle.vm.specs.declared.BranchTarget.TheVariants as branch
 use Rattle.step.specs.declared.Leave.{Leave}
-use Rattle.step.specs.declared.Leave.TheVariants.{Ended, Jump}
+use Rattle.step.specs.declared.Leave.TheVariants.{Ended, Illegal, Jump}
 use Rattle.step.specs.Ways.{left_of}
 use Rattle.stack.specs.Stack.{Stack, room}
 use Rattle.turns.specs.Grounds.{Way, to, jump, leave}
 use Rattle.turns.specs.Turns.{take_ways}
 use Rattle.turns.specs.Moves.{Asked, ways_of, jump_by, move_by, ground_of, table_room}
 use Rattle.turns.specs.Straight.{leaving}
-use Rattle.turns.proofs.Leavings.{leaving_jump}
+use Rattle.turns.proofs.Leavings.{leaving_illegal, leaving_jump}
 use Rattle.turns.proofs.PileLaws.{piles_no_way}
 use Rattle.pushes.specs.declared.Taken.{Taken}
 use Rattle.pushes.specs.Takes.{none, is_way, stays_in, Takes, PushedAt, TakenTarget, TakenWays}
 use Rattle.pushes.proofs.WayLaws.{no_way, place_refused, place_then}
 
 -- a run that ended at its section's end asks for nothing
-pub leaving_ended : (at : SectionAddress) (s : VM) → leaving Ended at s ≡ leave []
+leaving_ended : (at : SectionAddress) (s : VM) → leaving Ended at s ≡ leave []
 unfolding move_by left_of
 leaving_ended at s = refl
+
+-- nor does a word that is illegal
+pub leaving_none : (at : SectionAddress) (s : VM) (l : Leave) → (l ≡ Ended) ⊎ (l ≡ Illegal) → leaving l at s ≡ leave []
+leaving_none at s l (inl e) = rw e (leaving_ended at s)
+leaving_none at s l (inr e) = rw e (leaving_illegal at s)
 
 -- a jump whose target is not in the section leaves by the target's ways
 pub leaving_away : (at : SectionAddress) (s : VM) (t : BranchTarget) → stays_in at t ≡ false → leaving (Jump t) at s ≡ leave (ways_of t s)
@@ -56,7 +62,7 @@ leaving_inside at s t f ys e = by t f (sym (leaving_jump at s t) ∙ e)
         omega arith
     by (branch.JumpTable t z) f e = let o : ◌≡◌ {A = ℕ} 0 1 = cc in omega arith
 
-module _ (ws bs : List ℕ) (from : SectionAddress) (upto : MaybeAddress) (words : List ℕ) (n : ℕ) (buffer : List ℕ) (at : SectionAddress) (l : Leave) (s : VM) where
+module _ (ws bs : List ℕ) (from : SectionAddress) (upto : Option SectionAddress) (words : List ℕ) (n : ℕ) (buffer : List ℕ) (at : SectionAddress) (l : Leave) (s : VM) where
   -- the ways that it leaves by were taken
   pub taken_by : {words' buffer' : List ℕ} {r : Taken} (xs : List (Way SectionAddress VM Asked)) → leaving l at s ≡ leave xs → length buffer' ≡ table_room
       → Takes (take_ways (ground_of ws bs from upto (room (length words))) at xs) words n buffer words' buffer' r

@@ -7,11 +7,9 @@ use mathlib.Core.List.{List, [], map}
 use native.Mathlib.Omega.{arith}
 use lib.ListN.{length, get_or, take}
 use Rattle.places.specs.declared.SectionAddress.{SectionAddress}
-use Rattle.places.specs.declared.MaybeAddress.{MaybeAddress}
-use Rattle.places.specs.declared.MaybeAddress.TheVariants.{Nowhere}
 use Rattle.lookups.specs.Code.{code_place}
 use Rattle.vm.specs.declared.VM.{VM}
-use Rattle.stack.specs.declared.Pushed.{Pushed}
+use Rattle.std.specs.Prelude.{Option, is_some, unwrap_or, None}
 use Rattle.stack.specs.Stack.{Stack, room}
 use Rattle.stack.specs.Push.{Pushes}
 use Rattle.turns.specs.Turns.{push_at, push_each}
@@ -30,8 +28,8 @@ module _ (ws words : List ℕ) (n : ℕ) (q : SectionAddress) (s : VM) (st : Sta
       (record { piles = λ bs from upto buffer. piles_out ws bs from upto (room (length words)) refl st q s w; read = refl; not_read = refl })
 
   -- a word of code
-  pub pushed_word : (p : Pushed) (words' : List ℕ) → is_fine (code_place ws q) ≡ true → Pushes words n q s true p words' → length words' ≡ length words
-      → PushedAt ws words n q s words' (record { held = p.count; full = not p.taken; read = 0; not_read = 0 })
+  pub pushed_word : (p : Option ℕ) (words' : List ℕ) → is_fine (code_place ws q) ≡ true → Pushes words n q s true p words' → length words' ≡ length words
+      → PushedAt ws words n q s words' (record { held = unwrap_or p n; full = not (is_some p); read = 0; not_read = 0 })
   pushed_word p words' w d e = record {
     piles = λ bs from upto buffer. piles_push ws bs from upto (room (length words)) refl st q s w p words' d e;
     read = refl;
@@ -40,13 +38,13 @@ module _ (ws words : List ℕ) (n : ℕ) (q : SectionAddress) (s : VM) (st : Sta
 
 -- the same over a ground with as many slots
 pub on_ground : {ws words : List ℕ} {n : ℕ} {q : SectionAddress} {s : VM} {words' : List ℕ} {r : Taken} {full : Bool} → PushedAt ws words n q s words' r
-    → (slots : ℕ) → room (length words) ≡ slots → r.full ≡ full → (bs : List ℕ) (from : SectionAddress) (upto : MaybeAddress) (buffer : List ℕ)
+    → (slots : ℕ) → room (length words) ≡ slots → r.full ≡ full → (bs : List ℕ) (from : SectionAddress) (upto : Option SectionAddress) (buffer : List ℕ)
     → Piles (push_at (ground_of ws bs from upto slots) q s) words n buffer words' r.held buffer full 0 0
 on_ground h slots e f bs from upto buffer = rw (← e, ← f) (h.piles bs from upto buffer)
 
 -- the first j keys are pushed, and no push was refused
 pub record KeysIn (ws words : List ℕ) (n : ℕ) (keys : List ℕ) (s : VM) (words' : List ℕ) (n' j : ℕ) : Type 0 where
-  pub piles : (bs : List ℕ) (from : SectionAddress) (upto : MaybeAddress) (buffer : List ℕ)
+  pub piles : (bs : List ℕ) (from : SectionAddress) (upto : Option SectionAddress) (buffer : List ℕ)
       → Piles (push_each (ground_of ws bs from upto (room (length words))) s (places_from keys 0 j)) words n buffer words' n' buffer false 0 0
   pub held : Stack words' n'
   pub words_length : length words' ≡ length words
@@ -69,11 +67,13 @@ module _ (ws words : List ℕ) (n : ℕ) (keys : List ℕ) (s : VM) where
         rw z
         (record {
           piles = λ bs from upto buffer. rw (← places_first keys e, ← same) (h.piles bs from upto buffer);
+          read = refl;
+          not_read = refl;
         })
 
     -- one more
     module _ {words'' : List ℕ} {r : Taken} (low : j < length keys) (p : PushedAt ws words' n' (place_of (get_or keys j 0)) s words'' r) where
-      next : (full : Bool) → r.full ≡ full → (bs : List ℕ) (from : SectionAddress) (upto : MaybeAddress) (buffer : List ℕ)
+      next : (full : Bool) → r.full ≡ full → (bs : List ℕ) (from : SectionAddress) (upto : Option SectionAddress) (buffer : List ℕ)
           → Piles (push_each (ground_of ws bs from upto (room (length words))) s (places_from keys 0 (j + 1))) words n buffer words'' r.held buffer full 0 0
       next full f bs from upto buffer =
           piles_keys_more (ground_of ws bs from upto (room (length words))) s keys j low (h.piles bs from upto buffer)
@@ -81,7 +81,7 @@ module _ (ws words : List ℕ) (n : ℕ) (keys : List ℕ) (s : VM) where
 
       pub keys_more : r.full ≡ false → KeysIn ws words n keys s words'' r.held (j + 1)
       keys_more f =
-          let one = p.piles [] (place_of (get_or keys j 0)) Nowhere [] in
+          let one = p.piles [] (place_of (get_or keys j 0)) None [] in
           record { piles = next false f; held = one.held; words_length = one.words_length ∙ h.words_length }
 
       -- a push was refused: the rest is passed over
@@ -90,4 +90,6 @@ module _ (ws words : List ℕ) (n : ℕ) (keys : List ℕ) (s : VM) where
         piles = λ bs from upto buffer.
             rw (← places_first keys e, f)
             (piles_keys_stop (ground_of ws bs from upto (room (length words))) s keys (j + 1) e (omega arith) b (next true f bs from upto buffer));
+        read = p.read;
+        not_read = p.not_read;
       }

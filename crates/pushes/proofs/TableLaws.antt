@@ -1,83 +1,46 @@
 -- A table that is asked for: it is told as read or not, and its entries are pushed.
 -- Assumes words that hold a stack, and an entry buffer of the walk's length.
-use Prim.Native.Nat.{ℕ, ◌-◌, ◌*◌, ◌/◌, ◌%◌, ◌≤◌}
-use mathlib.Core.Path.{◌≡◌, refl}
-use mathlib.Core.Bool.{Bool, true, false, not}
+use Prim.Native.Nat.{ℕ, ◌≤◌}
+use mathlib.Core.Path.{◌≡◌, refl, sym, ◌∙◌}
+use mathlib.Core.Bool.{false, not}
 use mathlib.Core.List.{List, []}
-use native.Mathlib.Omega.{arith}
-use borrow.Author.Tests.{leb-true}
-use lib.Dec.{eqb, leb}
-use lib.ListN.{length, replicate}
-use Rattle.words.specs.Choice.{pick}
+use lib.Dec.{eqb}
+use lib.ListN.{length}
 use Rattle.places.specs.declared.SectionAddress.{SectionAddress}
-use Rattle.places.specs.declared.MaybeAddress.{MaybeAddress}
 use Rattle.places.specs.declared.RelocationTarget.TheVariants as target
 use Rattle.vm.specs.declared.VM.{VM}
-use Rattle.vm.specs.declared.TableSize.{TableSize}
 use Rattle.stack.specs.Stack.{Stack, room}
-use Rattle.jump_tables.specs.declared.How.TheVariants.{Sized}
-use Rattle.jump_tables.specs.declared.Reading.{Reading}
 use Rattle.jump_tables.specs.declared.Table.{Table}
-use Rattle.jump_tables.specs.declared.TableAnswer.{TableAnswer}
-use Rattle.jump_tables.specs.declared.TableAnswer.TheVariants as answer
-use Rattle.jump_tables.specs.Tables as tables
-use Rattle.jump_tables.specs.Tables.{Outcome, refused, answer_of, table_in}
+use Rattle.jump_tables.specs.declared.TableError.{TableError}
+use Rattle.jump_tables.specs.declared.TableError.TheVariants as error
+use Rattle.jump_tables.specs.Tables.{Outcome, error_number, count_of, table_in}
 use Rattle.turns.specs.Turns.{push_each}
 use Rattle.turns.specs.Histories.{one}
 use Rattle.turns.specs.Moves.{Asked, is_read, size_in, asked_of, look_at, ground_of, table_room}
 use Rattle.turns.proofs.Leavings.{pushes_none}
 use Rattle.turns.proofs.PileLaws.{piles_none, piles_asked, piles_table}
 use Rattle.pushes.specs.declared.Taken.{Taken}
-use Rattle.pushes.specs.Takes.{PushedKeys, TakenTable}
+use Rattle.pushes.specs.Takes.{none, unread, PushedKeys, TakenTable}
+use Rattle.pushes.proofs.PlaceLaws.{keys_start, keys_done}
+use Rattle.turns.proofs.SoundGround.{table_few}
+use Rattle.std.specs.Prelude.{Result, Ok, Err, Option}
 
 -- a table has no more entries than room
-either_few : (t : Bool) (n : ℕ) (a b : Outcome) → a.table.count ≤ n → b.table.count ≤ n → (pick t a b).table.count ≤ n
-either_few true n a b h i = h
-either_few false n a b h i = i
+pub entries_fit : (ws bs : List ℕ) (p : SectionAddress) (size : ℕ) (from : SectionAddress) (upto : Option SectionAddress) (n : ℕ) {r : Result Table TableError} {t : Table}
+    → r ≡ (table_in ws bs p size from upto n).table → r ≡ Ok t → t.count ≤ n
+entries_fit ws bs p size from upto n e f = rw (← e, f) at (table_few ws bs p size from upto n)
 
-fitted_few : (t : Bool) (ks : List ℕ) (size n : ℕ) → leb (length ks) n ≡ t
-    → (pick t (record { table = record { answer = answer.Read; count = length ks; size = size }; keys = tables.filled ks n }) (refused answer.Full n)).table.count ≤ n
-fitted_few true ks size n e = leb-true _ _ e
-fitted_few false ks size n e = omega arith
+-- a refusal's number is not 0
+refused_not_read : (e : TableError) → eqb (error_number e) 0 ≡ false
+refused_not_read error.Broken = refl
+refused_not_read error.RelocationError = refl
+refused_not_read error.Ragged = refl
+refused_not_read error.PointsNowhere = refl
+refused_not_read error.Full = refl
 
-judged_few : (a : TableAnswer) (o : Outcome) (n : ℕ) → o.table.count ≤ n → (tables.on_verdict a o n).table.count ≤ n
-judged_few answer.Broken o n h = omega arith
-judged_few answer.RelocationError o n h = omega arith
-judged_few answer.Ragged o n h = omega arith
-judged_few answer.PointsNowhere o n h = omega arith
-judged_few answer.Full o n h = omega arith
-judged_few answer.Read o n h = h
-
-read_few : (rs : List Reading) (n : ℕ) → (tables.read_off rs n).table.count ≤ n
-unfolding tables.read_off
-read_few rs n = judged_few (tables.verdict rs) _ n (fitted_few _ (tables.entries_of rs []) (length rs * 4) n refl)
-
-few_entries : (ws bs : List ℕ) (p : SectionAddress) (size : ℕ) (from : SectionAddress) (upto : MaybeAddress) (n : ℕ)
-    → (table_in ws bs p size from upto n).table.count ≤ n
-unfolding table_in tables.sized_table tables.guessed_table
-few_entries ws bs p size from upto n =
-    let known = tables.size_of ws p size in
-    let cut = tables.clamped_size ws p known in
-    let sized = tables.read_off (tables.words_passed ws bs Sized p (cut / 4)) n in
-    let guessed = tables.guessed_table ws bs p from upto n in
-    either_few (tables.is_table ws p) n (pick (eqb known 0) guessed (pick (eqb (cut % 4) 0) sized (refused answer.Ragged n)))
-    (record { table = record { answer = answer.Read; count = 0; size = 0 }; keys = replicate n 0 })
-    (either_few (eqb known 0) n guessed (pick (eqb (cut % 4) 0) sized (refused answer.Ragged n)) (read_few _ n)
-    (either_few (eqb (cut % 4) 0) n sized (refused answer.Ragged n) (read_few _ n) (omega arith)))
-    (omega arith)
-
-pub entries_fit : (ws bs : List ℕ) (p : SectionAddress) (size : ℕ) (from : SectionAddress) (upto : MaybeAddress) (n : ℕ) {t : Table}
-    → t ≡ (table_in ws bs p size from upto n).table → t.count ≤ n
-entries_fit ws bs p size from upto n e = rw e (few_entries ws bs p size from upto n)
-
--- read or not
-pub one_or_none : (t : Bool) → (one t ≤ 1) × (1 - one t ≡ one (not t))
-one_or_none true = (omega arith, omega arith)
-one_or_none false = (omega arith, omega arith)
-
-module _ (ws bs : List ℕ) (from : SectionAddress) (upto : MaybeAddress) (words : List ℕ) (n : ℕ) (buffer : List ℕ) (st : Stack words n) (size : TableSize) (s : VM) where
+module _ (ws bs : List ℕ) (from : SectionAddress) (upto : Option SectionAddress) (words : List ℕ) (n : ℕ) (buffer : List ℕ) (st : Stack words n) (size : Option ℕ) (s : VM) where
   -- External: not read, and the buffer stays
-  pub taken_external : TakenTable ws bs from upto words n buffer target.External size s words buffer (record { held = n; full = false; read = 0; not_read = 1 })
+  pub taken_external : TakenTable ws bs from upto words n buffer target.External size s words buffer (unread n)
   unfolding look_at
   taken_external p =
       let g = ground_of ws bs from upto (room (length words)) in
@@ -87,7 +50,7 @@ module _ (ws bs : List ℕ) (from : SectionAddress) (upto : MaybeAddress) (words
 
   -- an outcome, and its entries pushed
   module _ (p : SectionAddress) {words' : List ℕ} {k : Taken} where
-    taken_outcome : (o : Outcome) → o ≡ look_at ws bs from upto (asked_of (target.Address p) size) → PushedKeys ws words n o.keys o.table.count s words' k
+    taken_outcome : (o : Outcome) → o ≡ look_at ws bs from upto (asked_of (target.Address p) size) → PushedKeys ws words n o.keys (count_of o.table) s words' k
         → TakenTable ws bs from upto words n buffer (target.Address p) size s words' o.keys (record { held = k.held; full = k.full; read = one (is_read o); not_read = one (not (is_read o)) })
     taken_outcome o e h at =
         let g = ground_of ws bs from upto (room (length words)) in
@@ -95,14 +58,28 @@ module _ (ws bs : List ℕ) (from : SectionAddress) (upto : MaybeAddress) (words
         piles_table g at a s (piles_asked ws bs from upto (room (length words)) refl st at a o e (is_read o) refl)
         (rw (← e) (h.piles bs from upto o.keys))
 
-    -- the same by what table_in, push_keys and read_one answer
-    pub taken_address : {m read : ℕ} {t : Table} {buffer' : List ℕ} → length buffer ≡ table_room → m ≡ size_in size
-        → t ≡ (table_in ws bs p m from upto (length buffer)).table → buffer' ≡ (table_in ws bs p m from upto (length buffer)).keys
-        → PushedKeys ws words n buffer' t.count s words' k → read ≡ one (eqb (answer_of t.answer) 0)
-        → TakenTable ws bs from upto words n buffer (target.Address p) size s words' buffer' (record { held = k.held; full = k.full; read = read; not_read = 1 - read })
+    -- a table that was read
+    pub taken_read : {m : ℕ} {r : Result Table TableError} {t : Table} {buffer' : List ℕ} → length buffer ≡ table_room → m ≡ size_in size
+        → r ≡ (table_in ws bs p m from upto (length buffer)).table → buffer' ≡ (table_in ws bs p m from upto (length buffer)).keys → r ≡ Ok t
+        → PushedKeys ws words n buffer' t.count s words' k
+        → TakenTable ws bs from upto words n buffer (target.Address p) size s words' buffer' (record { held = k.held; full = k.full; read = 1; not_read = k.not_read })
     unfolding look_at
-    taken_address {m} {read} {t} {buffer'} l z a b h r =
+    taken_read {m} {r} {t} {buffer'} l z a b e h =
         let o : Outcome = table_in ws bs p m from upto (length buffer) in
-        let e : o ≡ look_at ws bs from upto (asked_of (target.Address p) size) = rw (z, l) in
-        let h' : PushedKeys ws words n o.keys o.table.count s words' k = rw (← a, ← b) h in
-        rw (r, a, b, (one_or_none (is_read o)).1) (taken_outcome o e h')
+        let same : o ≡ look_at ws bs from upto (asked_of (target.Address p) size) = rw (z, l) in
+        let is : o.table ≡ Ok t = sym a ∙ e in
+        let h' : PushedKeys ws words n o.keys (count_of o.table) s words' k = rw (is, ← b) h in
+        rw (b, h.not_read) (rw is at (taken_outcome o same h'))
+
+  -- one that was refused has no entries
+  pub taken_unread : (p : SectionAddress) {m : ℕ} {r : Result Table TableError} {e : TableError} {buffer' : List ℕ} → length buffer ≡ table_room → m ≡ size_in size
+      → r ≡ (table_in ws bs p m from upto (length buffer)).table → buffer' ≡ (table_in ws bs p m from upto (length buffer)).keys → r ≡ Err e
+      → TakenTable ws bs from upto words n buffer (target.Address p) size s words buffer' (unread n)
+  unfolding look_at
+  taken_unread p {m} {r} {e} {buffer'} l z a b f =
+      let o : Outcome = table_in ws bs p m from upto (length buffer) in
+      let same : o ≡ look_at ws bs from upto (asked_of (target.Address p) size) = rw (z, l) in
+      let is : o.table ≡ Err e = sym a ∙ f in
+      let h : PushedKeys ws words n o.keys (count_of o.table) s words (none n) = rw is (keys_done ws words n o.keys s (keys_start ws words n o.keys s st) 0 (none n) refl refl) in
+      let unread : is_read o ≡ false = rw is (refused_not_read e) in
+      rw b (rw unread at (taken_outcome p o same h))

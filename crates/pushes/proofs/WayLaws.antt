@@ -1,5 +1,6 @@
 -- Ways in order: a place, a target, two of them.
 -- Assumes words that hold a stack.
+use Rattle.std.specs.Prelude.{Option}
 use Prim.Native.Nat.{ℕ}
 use mathlib.Core.Path.{◌≡◌, refl, sym, ◌∙◌}
 use mathlib.Core.Bool.{Bool, true, false}
@@ -7,7 +8,6 @@ use mathlib.Core.List.{List, [], ◌∷◌}
 use native.Mathlib.Omega.{arith}
 use lib.ListN.{length}
 use Rattle.places.specs.declared.SectionAddress.{SectionAddress}
-use Rattle.places.specs.declared.MaybeAddress.{MaybeAddress}
 use Rattle.places.specs.declared.RelocationTarget.TheVariants as target
 use Rattle.vm.specs.declared.VM.{VM}
 use Rattle.vm.specs.declared.BranchTarget.{BranchTarget}
@@ -23,7 +23,7 @@ use Rattle.pushes.specs.declared.Taken.{Taken}
 use Rattle.pushes.specs.Takes.{is_way, Takes, PushedAt}
 use Rattle.pushes.proofs.PlaceLaws.{on_ground}
 
-module _ (ws bs : List ℕ) (from : SectionAddress) (upto : MaybeAddress) (slots : ℕ) (p : SectionAddress) {words : List ℕ} {n : ℕ} {buffer : List ℕ} where
+module _ (ws bs : List ℕ) (from : SectionAddress) (upto : Option SectionAddress) (slots : ℕ) (p : SectionAddress) {words : List ℕ} {n : ℕ} {buffer : List ℕ} where
   -- a single way
   pub one_way : {words' : List ℕ} {n' : ℕ} {buffer' : List ℕ} {full : Bool} {r m : ℕ} (y : Way SectionAddress VM Asked)
       → Piles (take_way (ground_of ws bs from upto slots) p y) words n buffer words' n' buffer' full r m

@@ -1,15 +1,13 @@
 -- What pushing leaves, piece by piece, in the words of crate `turns` (`Piles`).
 -- Assumes nothing.
-use Rattle.std.specs.Prelude.{ℕ, ◌≡◌, Bool, true, false, List, map, length, take, eqb}
+use Rattle.std.specs.Prelude.{ℕ, ◌≡◌, Bool, true, false, List, map, length, take, eqb, Option}
 use Rattle.places.specs.declared.SectionAddress.{SectionAddress}
-use Rattle.places.specs.declared.MaybeAddress.{MaybeAddress}
 use Rattle.places.specs.declared.RelocationTarget.{RelocationTarget}
 use Rattle.places.specs.declared.RelocationTarget.TheVariants as target
 use Rattle.lookups.specs.Code.{code_place}
 use Rattle.vm.specs.declared.VM.{VM}
 use Rattle.vm.specs.declared.BranchTarget.{BranchTarget}
 use Rattle.vm.specs.declared.BranchTarget.TheVariants as branch
-use Rattle.vm.specs.declared.TableSize.{TableSize}
 use Rattle.step.specs.declared.Leave.{Leave}
 use Rattle.stack.specs.Stack.{Stack, Entry, room}
 use Rattle.jump_tables.specs.Tables.{Outcome}
@@ -23,6 +21,10 @@ use Rattle.pushes.specs.declared.Taken.{Taken}
 -- nothing was pushed onto n states
 abbrev pub none : ℕ → Taken
 none n = record { held = n; full = false; read = 0; not_read = 0 }
+
+-- the same for a table that was not read
+abbrev pub unread : ℕ → Taken
+unread n = record { held = n; full = false; read = 0; not_read = 1 }
 
 -- a target that is a word of code or a table; to any other nothing is pushed
 abbrev pub place_is_way : List ℕ → RelocationTarget → Bool
@@ -53,28 +55,30 @@ Takes push words n buffer words' buffer' r = Piles push words n buffer words' r.
 
 -- one place with a state, whatever the data, the function bounds and the entry buffer are
 pub record PushedAt (ws words : List ℕ) (n : ℕ) (q : SectionAddress) (s : VM) (words' : List ℕ) (r : Taken) : Type 0 where
-  pub piles : (bs : List ℕ) (from : SectionAddress) (upto : MaybeAddress) (buffer : List ℕ)
+  pub piles : (bs : List ℕ) (from : SectionAddress) (upto : Option SectionAddress) (buffer : List ℕ)
       → Piles (push_at (ground_of ws bs from upto (room (length words))) q s) words n buffer words' r.held buffer r.full 0 0
   pub read : r.read ≡ 0
   pub not_read : r.not_read ≡ 0
 
 -- the first e keys in order, each with the same state
 pub record PushedKeys (ws words : List ℕ) (n : ℕ) (keys : List ℕ) (e : ℕ) (s : VM) (words' : List ℕ) (r : Taken) : Type 0 where
-  pub piles : (bs : List ℕ) (from : SectionAddress) (upto : MaybeAddress) (buffer : List ℕ)
+  pub piles : (bs : List ℕ) (from : SectionAddress) (upto : Option SectionAddress) (buffer : List ℕ)
       → Piles (push_each (ground_of ws bs from upto (room (length words))) s (map place_of (take e keys))) words n buffer words' r.held buffer r.full 0 0
+  pub read : r.read ≡ 0
+  pub not_read : r.not_read ≡ 0
 
 -- a table that the word at any place asks for
-abbrev pub TakenTable : List ℕ → List ℕ → SectionAddress → MaybeAddress → List ℕ → ℕ → List ℕ → RelocationTarget → TableSize → VM → List ℕ → List ℕ → Taken → Type 0
+abbrev pub TakenTable : List ℕ → List ℕ → SectionAddress → Option SectionAddress → List ℕ → ℕ → List ℕ → RelocationTarget → Option ℕ → VM → List ℕ → List ℕ → Taken → Type 0
 TakenTable ws bs from upto words n buffer t size s words' buffer' r =
     (p : SectionAddress) → Takes (take_way (ground_of ws bs from upto (room (length words))) p (table (asked_of t size) s)) words n buffer words' buffer' r
 
 -- a target that the word at any place leads to
-abbrev pub TakenTarget : List ℕ → List ℕ → SectionAddress → MaybeAddress → List ℕ → ℕ → List ℕ → BranchTarget → VM → List ℕ → List ℕ → Taken → Type 0
+abbrev pub TakenTarget : List ℕ → List ℕ → SectionAddress → Option SectionAddress → List ℕ → ℕ → List ℕ → BranchTarget → VM → List ℕ → List ℕ → Taken → Type 0
 TakenTarget ws bs from upto words n buffer t s words' buffer' r =
     (p : SectionAddress) → Takes (take_ways (ground_of ws bs from upto (room (length words))) p (ways_of t s)) words n buffer words' buffer' r
 
 -- all ways of a word that leaves; of a jump inside the section only that a stack is left
-pub record TakenWays (ws bs : List ℕ) (from : SectionAddress) (upto : MaybeAddress) (words : List ℕ) (n : ℕ) (buffer : List ℕ)
+pub record TakenWays (ws bs : List ℕ) (from : SectionAddress) (upto : Option SectionAddress) (words : List ℕ) (n : ℕ) (buffer : List ℕ)
     (at : SectionAddress) (l : Leave) (s : VM) (words' buffer' : List ℕ) (r : Taken) : Type 0 where
   pub ways : (ys : List (Way SectionAddress VM Asked)) → leaving l at s ≡ leave ys
       → Takes (take_ways (ground_of ws bs from upto (room (length words))) at ys) words n buffer words' buffer' r

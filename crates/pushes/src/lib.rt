@@ -14,13 +14,14 @@ ghost use Rattle.turns.specs.Moves.{table_room};
 ghost use Rattle.pushes.specs.Takes.{none, PushedAt, TakenTarget, TakenWays};
 
 use clones::Made;
-use places::{MaybeAddress, RelocationTarget, SectionAddress};
+use places::{RelocationTarget, SectionAddress};
 use step::Leave;
 use tables::take_table;
 use targets::{is_way, is_word, stays_in};
 use vm::{BranchTarget, GprValue};
 
-// What pushing leaves: how many states wait, whether a push was refused (5), tables read and not read.
+// What pushing leaves: how many states wait, whether a push was refused (5), tables read and not read. A flag and no Result:
+// the states and the counts stand where a push was refused too.
 #[derive(Clone, Copy)]
 pub struct Taken {
     pub held: usize,
@@ -55,8 +56,8 @@ pub fn push_at(
     if is_word(im, q) {
         let p = stack::push(stack, count, q, cells, made, true);
         return Taken {
-            held: p.count,
-            full: !p.taken,
+            held: p.unwrap_or(count),
+            full: p.is_none(),
             read: 0,
             not_read: 0,
         };
@@ -69,7 +70,7 @@ fn take_target(
     im: &[u32],
     bytes: &[u8],
     from: SectionAddress,
-    upto: MaybeAddress,
+    upto: Option<SectionAddress>,
     stack: &mut [u32],
     count: usize,
     entries: &mut [u64],
@@ -101,7 +102,7 @@ fn take_jump(
     im: &[u32],
     bytes: &[u8],
     from: SectionAddress,
-    upto: MaybeAddress,
+    upto: Option<SectionAddress>,
     stack: &mut [u32],
     count: usize,
     entries: &mut [u64],
@@ -138,7 +139,7 @@ fn take_call(
     im: &[u32],
     bytes: &[u8],
     from: SectionAddress,
-    upto: MaybeAddress,
+    upto: Option<SectionAddress>,
     stack: &mut [u32],
     count: usize,
     entries: &mut [u64],
@@ -176,7 +177,7 @@ fn take_fork(
     im: &[u32],
     bytes: &[u8],
     from: SectionAddress,
-    upto: MaybeAddress,
+    upto: Option<SectionAddress>,
     stack: &mut [u32],
     count: usize,
     entries: &mut [u64],
@@ -224,7 +225,7 @@ fn take_both(
     im: &[u32],
     bytes: &[u8],
     from: SectionAddress,
-    upto: MaybeAddress,
+    upto: Option<SectionAddress>,
     stack: &mut [u32],
     count: usize,
     entries: &mut [u64],
@@ -262,7 +263,7 @@ pub fn take(
     im: &[u32],
     bytes: &[u8],
     from: SectionAddress,
-    upto: MaybeAddress,
+    upto: Option<SectionAddress>,
     stack: &mut [u32],
     count: usize,
     entries: &mut [u64],
@@ -275,8 +276,7 @@ pub fn take(
     ensures { TakenWays im.now bytes.now from upto stack.old count entries.old at l (state_of cells.now) stack.new entries.new result }
 {
     match l {
-        Leave::Ended => nothing(count),
-        Leave::Illegal => nothing(count),
+        Leave::Ended | Leave::Illegal => nothing(count),
         Leave::Jump(t) => take_jump(im, bytes, from, upto, stack, count, entries, at, t, cells),
         Leave::Call(t) => take_call(im, bytes, from, upto, stack, count, entries, at, t, cells),
         Leave::Fork {

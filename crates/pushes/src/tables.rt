@@ -1,22 +1,19 @@
 // A jump table in a walk: it is read with the given function bounds, then its entries are pushed.
 // Requires a sound image, words and a count that are a stack, and an entry buffer of the walk's length, and cells that hold the state.
-ghost use Rattle.std.specs.Prelude.{◌≡◌, true, ◌≤◌, eqb, length};
+ghost use Rattle.std.specs.Prelude.{◌≡◌, true, ◌≤◌, length};
 ghost use Rattle.image.specs.Rules.{tables_sound, data_inside};
 ghost use Rattle.cells.specs.Cells.{state_of, Cells};
 ghost use Rattle.clones.specs.Clones.{made_of};
 ghost use Rattle.stack.specs.Stack.{Stack};
-ghost use Rattle.jump_tables.specs.Tables.{answer_of};
-ghost use Rattle.turns.specs.Histories.{one};
 ghost use Rattle.turns.specs.Moves.{place_of, size_in, table_room};
-ghost use Rattle.pushes.specs.Takes.{PushedKeys, TakenTable};
+ghost use Rattle.pushes.specs.Takes.{unread, PushedKeys, TakenTable};
 
 use crate::{Taken, nothing, push_at};
 use clones::Made;
-use jump_tables::{TableAnswer, table_in};
-use places::{MaybeAddress, RelocationTarget, SectionAddress};
-use vm::TableSize;
+use jump_tables::table_in;
+use places::{RelocationTarget, SectionAddress};
 
-// The place that an entry of a table names.
+// The place that an entry of a table names. No From: both types are other crates' own.
 pub fn place_of(key: u64) -> SectionAddress
     ensures { result ≡ place_of key }
 {
@@ -40,39 +37,33 @@ pub fn push_keys(
     ensures { PushedKeys im.now stack.old count entries.now n (made_of made (state_of cells.now)) stack.new result }
 {
     let mut held = count;
-    let mut j: usize = 0;
-    while j < n {
-        let r = push_at(im, stack, held, place_of(entries[j]), cells, made);
+    for key in &entries[..n] {
+        let r = push_at(im, stack, held, place_of(*key), cells, made);
         if r.full {
             return r;
         }
         held = r.held;
-        j = j + 1;
     }
     nothing(held)
 }
 
-// A size as a number, 0 for none.
-fn size_in(size: TableSize) -> u32
+// A size as a number, 0 for none. No From: both types are other crates' own.
+fn size_in(size: Option<u32>) -> u32
     ensures { result ≡ size_in size }
 {
     match size {
-        TableSize::Guessed => 0,
-        TableSize::Bytes(n) => n,
+        None => 0,
+        Some(n) => n,
     }
 }
 
-// 1 for a table that was read, 0 for a refused one.
-fn read_one(answer: TableAnswer) -> u64
-    ensures { result ≡ one (eqb (answer_of answer) 0) }
+// Nothing was pushed for a table that was not read.
+fn not_read(count: usize) -> Taken
+    ensures { result ≡ unread count }
 {
-    match answer {
-        TableAnswer::Broken => 0,
-        TableAnswer::RelocationError => 0,
-        TableAnswer::Ragged => 0,
-        TableAnswer::PointsNowhere => 0,
-        TableAnswer::Full => 0,
-        TableAnswer::Read => 1,
+    Taken {
+        not_read: 1,
+        ..nothing(count)
     }
 }
 
@@ -81,12 +72,12 @@ pub fn take_table(
     im: &[u32],
     bytes: &[u8],
     from: SectionAddress,
-    upto: MaybeAddress,
+    upto: Option<SectionAddress>,
     stack: &mut [u32],
     count: usize,
     entries: &mut [u64],
     t: RelocationTarget,
-    size: TableSize,
+    size: Option<u32>,
     cells: &[u32],
     made: Made,
 ) -> Taken
@@ -95,22 +86,14 @@ pub fn take_table(
     ensures { TakenTable im.now bytes.now from upto stack.old count entries.old t size (made_of made (state_of cells.now)) stack.new entries.new result }
 {
     match t {
-        RelocationTarget::External => Taken {
-            held: count,
-            full: false,
-            read: 0,
-            not_read: 1,
-        },
+        RelocationTarget::External => not_read(count),
         RelocationTarget::Address(p) => {
-            let o = table_in(im, bytes, p, size_in(size), from, upto, entries);
-            let r = push_keys(im, stack, count, entries, o.count, cells, made);
-            let answer = o.answer;
-            let read = read_one(answer);
-            Taken {
-                held: r.held,
-                full: r.full,
-                read: read,
-                not_read: 1 - read,
+            match table_in(im, bytes, p, size_in(size), from, upto, entries) {
+                Ok(t) => {
+                    let r = push_keys(im, stack, count, entries, t.count, cells, made);
+                    Taken { read: 1, ..r }
+                }
+                Err(_) => not_read(count),
             }
         }
     }

@@ -6,7 +6,7 @@ ghost use Rattle.lookups.specs.Code.{code_place};
 ghost use Rattle.turns.specs.Moves.{is_fine};
 ghost use Rattle.pushes.specs.Takes.{is_way, stays_in};
 
-use lookups::{CodePlace, code_place};
+use lookups::code_place;
 use places::{RelocationTarget, SectionAddress};
 use vm::BranchTarget;
 
@@ -15,11 +15,7 @@ pub fn is_word(im: &[u32], q: SectionAddress) -> bool
     requires { tables_sound im.now ≡ true }
     ensures { result ≡ is_fine (code_place im.now q) }
 {
-    match code_place(im, q) {
-        CodePlace::NotCode => false,
-        CodePlace::Misaligned => false,
-        CodePlace::Fine => true,
-    }
+    matches!(code_place(im, q), Ok(()))
 }
 
 // Whether a target is a word of code or a table: where it is not, no state is made for it.
@@ -28,16 +24,9 @@ pub fn is_way(im: &[u32], t: BranchTarget) -> bool
     ensures { result ≡ is_way im.now t }
 {
     match t {
-        BranchTarget::Unknown => false,
-        BranchTarget::Return => false,
-        BranchTarget::Address(a) => match a {
-            RelocationTarget::External => false,
-            RelocationTarget::Address(q) => is_word(im, q),
-        },
-        BranchTarget::JumpTable {
-            address: _,
-            size: _,
-        } => true,
+        BranchTarget::Address(RelocationTarget::Address(q)) => is_word(im, q),
+        BranchTarget::JumpTable { .. } => true,
+        _ => false,
     }
 }
 
@@ -46,15 +35,7 @@ pub fn stays_in(at: SectionAddress, t: BranchTarget) -> bool
     ensures { result ≡ stays_in at t }
 {
     match t {
-        BranchTarget::Unknown => false,
-        BranchTarget::Return => false,
-        BranchTarget::Address(a) => match a {
-            RelocationTarget::External => false,
-            RelocationTarget::Address(q) => q.section == at.section,
-        },
-        BranchTarget::JumpTable {
-            address: _,
-            size: _,
-        } => false,
+        BranchTarget::Address(RelocationTarget::Address(q)) => q.section == at.section,
+        _ => false,
     }
 }

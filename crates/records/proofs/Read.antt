@@ -9,17 +9,16 @@ use native.Mathlib.Nat.{not-suc-le-zero, add-zero, le_of_suc-le-suc}
 use native.Mathlib.Omega.{arith}
 use lib.ListN.{length, set, length-set}
 use lib.Seq.{sets, length-sets, get_or-set_same, get_or-set_other}
+use Rattle.std.specs.Prelude.{Ok, Err, Option, Some}
 use Rattle.words.specs.Choice.{pick}
 use Rattle.search.specs.First.{first_from, first}
-use Rattle.search.specs.declared.Found.{Found}
-use Rattle.search.specs.declared.Found.TheVariants.{At}
 use Rattle.image.specs.declared.Section.{Section}
 use Rattle.image.specs.Layout.{word, sections, section_at}
 use Rattle.image.specs.Rules.{holds, has_elf, elf_index}
 use Rattle.records.specs.Records.{nth_record, numbered, first_record, record_at, record_by_elf}
 use Rattle.records.specs.Written.{few, roomy, fits, section_words, table_words, with_sections, written}
-use Rattle.records.specs.declared.Written.{Written}
-use Rattle.records.specs.declared.Written.TheVariants.{TooMany, NoRoom, Sections}
+use Rattle.records.specs.declared.WriteError.{WriteError}
+use Rattle.records.specs.declared.WriteError.TheVariants.{TooMany, NoRoom}
 use Rattle.records.proofs.WrittenLaws.{fit_room}
 
 -- ---- a run of stores, read
@@ -88,20 +87,24 @@ record_stands ws t i room h =
         let l' : j < length (table_words t) = omega arith in
         ap (word (sets ws 6 (table_words t))) e ∙ stored_at ws 6 (table_words t) j r l'
 
--- one more than an answer's number of sections, 0 for a refusal
-abbrev count : Written → ℕ
-count TooMany = 0
-count NoRoom = 0
-count (Sections n) = suc n
-
 -- an answer of so many sections says that the records fit, and that it is all of them
-pub answer_fits : (n m k : ℕ) → written n m ≡ Sections k → (fits n m ≡ true) × (k ≡ n)
+pub answer_fits : (n m k : ℕ) → written n m ≡ Ok k → (fits n m ≡ true) × (k ≡ n)
 answer_fits n m k e = by_case (few n) (roomy n m) e
   where
-    by_case : (a b : Bool) → pick a (pick b (Sections n) NoRoom) TooMany ≡ Sections k → (a && b ≡ true) × (k ≡ n)
-    by_case true true e = let h : suc n ≡ suc k = ap count e in (refl, omega arith)
-    by_case true false e = let h : 0 ≡ suc k = ap count e in absurd (omega arith)
-    by_case false b e = let h : 0 ≡ suc k = ap count e in absurd (omega arith)
+    by_case : (a b : Bool) → pick a (pick b (Ok n) (Err NoRoom)) (Err TooMany) ≡ Ok k → (a && b ≡ true) × (k ≡ n)
+    by_case true true e = let h : k ≡ n = cc in (refl, h)
+    by_case true false e = cc
+    by_case false b e = cc
+
+-- a refusal says that they don't
+pub error_fits : (n m : ℕ) (r : WriteError) → written n m ≡ Err r → fits n m ≡ false
+error_fits n m r e = by_case (few n) (roomy n m) e
+  where
+    by_case : (a b : Bool) → pick a (pick b (Ok n) (Err NoRoom)) (Err TooMany) ≡ Err r → a && b ≡ false
+    by_case true true e = cc
+    by_case true false e = refl
+    by_case false true e = refl
+    by_case false false e = refl
 
 -- record i stands where the image looks for it
 pub written_record : (ws : List ℕ) (t : List Section) (i : ℕ) → fits (length t) (length ws) ≡ true → i < length t → section_at (with_sections ws t) i ≡ nth_record t i
@@ -132,7 +135,7 @@ first_from_agrees : (p q : ℕ → Bool) (n m i : ℕ) → ((k : ℕ) → k < n 
 unfolding first_from
 first_from_agrees p q n zero i same l = refl
 first_from_agrees p q n (suc m) i same l =
-    rw (same i (omega arith)) (ap (λ (d : Found). pick (q i) (At i) d) (first_from_agrees p q n m (suc i) same (omega arith)))
+    rw (same i (omega arith)) (ap (λ (d : Option ℕ). pick (q i) (Some i) d) (first_from_agrees p q n m (suc i) same (omega arith)))
 
 -- a search through the words finds what it finds through the records, whatever the test
 pub same_found : (p : Section → ℕ → Bool) (ws : List ℕ) (t : List Section) (v : ℕ) → fits (length t) (length ws) ≡ true

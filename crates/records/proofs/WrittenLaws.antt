@@ -1,20 +1,19 @@
 -- Records written into the words one after another: one more, the end, and that each has room.
 -- Assumes nothing.
-use mathlib.Core.Path.{◌≡◌, refl, sym, ap, ◌∙◌}
-use mathlib.Core.Bool.{Bool, true, false}
+use mathlib.Core.Path.{◌≡◌, sym, ap, ◌∙◌}
+use mathlib.Core.Bool.{true}
 use mathlib.Core.List.{List, [], ◌∷◌, ◌++◌}
 use Prim.Native.Nat.{ℕ, suc, ◌+◌, ◌*◌, ◌<◌, ◌≤◌}
-use native.Mathlib.Nat.{not-suc-le-zero, add-zero}
+use native.Mathlib.Nat.{add-zero}
 use native.Mathlib.Numerals.{add-one}
 use native.Mathlib.Omega.{arith}
 use lib.ListN.{length, drop, set, drop_of_length-le}
 use lib.Seq.{drop-cons, sets}
 use borrow.Author.Tests.{leb-true}
-use Rattle.words.specs.Choice.{pick}
 use Rattle.search.proofs.EveryLaws.{and_left, and_right}
 use Rattle.image.specs.declared.Section.{Section}
 use Rattle.records.specs.Records.{no_record, nth_record}
-use Rattle.records.specs.Written.{few, roomy, fits, section_words, table_words, with_section, writable}
+use Rattle.records.specs.Written.{few, roomy, fits, section_words, table_words, with_section}
 
 -- six stores one after another
 pub six_stores : (ws : List ℕ) (i a b c d e f : ℕ) → set (set (set (set (set (set ws i a) (i + 1) b) (i + 2) c) (i + 3) d) (i + 4) e) (i + 5) f ≡ sets ws i (a ∷ b ∷ c ∷ d ∷ e ∷ f ∷ [])
@@ -34,27 +33,18 @@ sets_joined ws i (u ∷ us) vs = let e : suc i + length us ≡ i + suc (length u
 abbrev pub with_from : List ℕ → ℕ → List Section → List ℕ
 with_from ws i t = sets ws (i * 6 + 6) (table_words t)
 
-from_more : (zs : List ℕ) (t : List Section) (i : ℕ) → i < length t → with_from zs i (drop i t) ≡ with_from (with_section zs i (nth_record t i)) (i + 1) (drop (i + 1) t)
+-- one more record is written
+pub from_more : (zs : List ℕ) (t : List Section) (i : ℕ) → i < length t → with_from zs i (drop i t) ≡ with_from (with_section zs i (nth_record t i)) (i + 1) (drop (i + 1) t)
 unfolding table_words
 from_more zs t i h =
     let e : i * 6 + 6 + 6 ≡ suc i * 6 + 6 = omega arith in
     rw (drop-cons t i no_record h, add-one i)
     (sets_joined zs (i * 6 + 6) (section_words (nth_record t i)) (table_words (drop (suc i) t)) ∙ ap (λ (k : ℕ). sets (with_section zs i (nth_record t i)) k (table_words (drop (suc i) t))) e)
 
-from_done : (zs : List ℕ) (t : List Section) (i : ℕ) → length t ≤ i → with_from zs i (drop i t) ≡ zs
+-- none is left to write
+pub from_done : (zs : List ℕ) (t : List Section) (i : ℕ) → length t ≤ i → with_from zs i (drop i t) ≡ zs
 unfolding table_words
 from_done zs t i h = rw (drop_of_length-le t h)
-
--- one more record is written; ok says whether any is
-pub more_written : (ok : Bool) (zs : List ℕ) (t : List Section) (i : ℕ) → i < pick ok (length t) 0
-    → pick ok (with_from zs i (drop i t)) zs ≡ pick ok (with_from (with_section zs i (nth_record t i)) (i + 1) (drop (i + 1) t)) (with_section zs i (nth_record t i))
-more_written true zs t i h = from_more zs t i h
-more_written false zs t i h = absurd (not-suc-le-zero h)
-
--- none is left to write
-pub all_written : (ok : Bool) (zs : List ℕ) (t : List Section) (i : ℕ) → pick ok (length t) 0 ≤ i → pick ok (with_from zs i (drop i t)) zs ≡ zs
-all_written true zs t i h = from_done zs t i h
-all_written false zs t i h = refl
 
 -- where records are written they are few, and have room
 pub fit_few : (n m : ℕ) → fits n m ≡ true → n ≤ 64
@@ -62,11 +52,3 @@ fit_few n m e = leb-true n 64 (and_left (few n) (roomy n m) e)
 
 pub fit_room : (n m : ℕ) → fits n m ≡ true → n * 6 + 6 ≤ m
 fit_room n m e = leb-true (n * 6 + 6) m (and_right (few n) (roomy n m) e)
-
--- so each has its number below 64, and its six words
-pub has_room : (n m i : ℕ) → i < writable n m → (i < n) × (i < 64) × (i * 6 + 12 ≤ m)
-has_room n m i h = by_case (fits n m) refl h
-  where
-    by_case : (ok : Bool) → fits n m ≡ ok → i < pick ok n 0 → (i < n) × (i < 64) × (i * 6 + 12 ≤ m)
-    by_case true e l = let a = fit_few n m e in let b = fit_room n m e in (l, omega arith, omega arith)
-    by_case false e l = absurd (not-suc-le-zero l)

@@ -1,12 +1,12 @@
 -- Section records written into the image's words: docs/FORMATS.md, "The image".
 -- Assumes nothing.
-use Rattle.std.specs.Prelude.{ℕ, ◌+◌, ◌*◌, Bool, ◌&&◌, List, [], ◌∷◌, ◌++◌, length, leb}
+use Rattle.std.specs.Prelude.{ℕ, ◌+◌, ◌*◌, Bool, ◌&&◌, List, [], ◌∷◌, ◌++◌, length, leb, Result, Ok, Err}
 use Rattle.std.proofs.lemmas.List.Edits.{sets}
 use Rattle.words.specs.Choice.{pick}
 use Rattle.image.specs.declared.Section.{Section}
 use Rattle.image.specs.Numbers.{max_sections}
-use Rattle.records.specs.declared.Written.{Written}
-use Rattle.records.specs.declared.Written.TheVariants.{TooMany, NoRoom, Sections}
+use Rattle.records.specs.declared.WriteError.{WriteError}
+use Rattle.records.specs.declared.WriteError.TheVariants.{TooMany, NoRoom}
 
 -- n records are few enough
 abbrev pub few : ℕ → Bool
@@ -33,14 +33,10 @@ table_words (s ∷ ss) = section_words s ++ table_words ss
 abbrev pub with_section : List ℕ → ℕ → Section → List ℕ
 with_section ws i s = sets ws (i * 6 + 6) (section_words s)
 
--- how many of n records are written into m words: all of them, or none
-abbrev pub writable : ℕ → ℕ → ℕ
-writable n m = pick (fits n m) n 0
-
 -- the words with the records: all of them, or none
 abbrev pub with_sections : List ℕ → List Section → List ℕ
 with_sections ws t = pick (fits (length t) (length ws)) (sets ws 6 (table_words t)) ws
 
--- the answer for n records and m words
-abbrev pub written : ℕ → ℕ → Written
-written n m = pick (few n) (pick (roomy n m) (Sections n) NoRoom) TooMany
+-- the answer for n records and m words: how many are written, or why none
+abbrev pub written : ℕ → ℕ → Result ℕ WriteError
+written n m = pick (few n) (pick (roomy n m) (Ok n) (Err NoRoom)) (Err TooMany)

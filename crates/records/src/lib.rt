@@ -5,19 +5,17 @@ ghost use Rattle.std.specs.Prelude.{◌≡◌, ◌+◌, ◌*◌, ◌<◌, ◌≤
 ghost use Rattle.image.specs.Numbers.{max_sections};
 ghost use Rattle.image.specs.Rules.{holds};
 ghost use Rattle.records.specs.Records.{numbered, record_at, record_by_elf};
-ghost use Rattle.records.specs.Written.{with_section, with_sections, writable, written};
+ghost use Rattle.records.specs.Written.{with_section, with_sections, written};
 
 use image::Section;
-use search::Found;
+use lookups::sections::is_within;
+use search::first;
 
 // Whether the address a lies in the section.
 pub fn section_holds(s: Section, a: u32) -> bool
     ensures { result ≡ holds s a }
 {
-    if a < s.address {
-        return false;
-    }
-    a - s.address < s.size
+    is_within(s.address, s.size, a)
 }
 
 // Whether the section has that elf number.
@@ -28,68 +26,40 @@ pub fn section_numbered(s: Section, elf: u32) -> bool
 }
 
 // The index of the first record that holds the address a, or none.
-pub fn section_at(t: &[Section], a: u32) -> Found
+pub fn section_at(t: &[Section], a: u32) -> Option<usize>
     ensures { result ≡ record_at t.now a }
 {
-    let mut i = 0;
-    while i < t.len() {
-        if section_holds(t[i], a) {
-            return Found::At(i);
-        }
-        i += 1;
-    }
-    Found::Nothing
+    first(t.len(), |i| section_holds(t[i], a))
 }
 
 // The index of the first record with that elf number, or none.
-pub fn section_by_elf(t: &[Section], elf: u32) -> Found
+pub fn section_by_elf(t: &[Section], elf: u32) -> Option<usize>
     ensures { result ≡ record_by_elf t.now elf }
 {
-    let mut i = 0;
-    while i < t.len() {
-        if section_numbered(t[i], elf) {
-            return Found::At(i);
-        }
-        i += 1;
-    }
-    Found::Nothing
+    first(t.len(), |i| section_numbered(t[i], elf))
 }
 
 // The most sections that an image has: `max_sections`.
 const MAX_SECTIONS: usize = 64;
 
-// What writing records into the image's words answers: how many, or why none.
-#[derive(Clone, Copy)]
-pub enum Written {
+// Why no record is written into an image's words.
+#[derive(Clone, Copy, PartialEq, Eq, Debug)]
+pub enum WriteError {
     TooMany,
     NoRoom,
-    Sections(usize),
 }
 
 // How many of n records are written into m words: all of them, or none.
-fn count_of(n: usize, m: usize) -> usize
-    ensures { result ≡ writable n m }
-{
-    if MAX_SECTIONS < n {
-        return 0;
-    }
-    if m < n * 6 + 6 {
-        return 0;
-    }
-    n
-}
-
-// The answer for n records and m words.
-fn answer_of(n: usize, m: usize) -> Written
+fn room_for(n: usize, m: usize) -> Result<usize, WriteError>
     ensures { result ≡ written n m }
 {
     if MAX_SECTIONS < n {
-        return Written::TooMany;
+        return Err(WriteError::TooMany);
     }
     if m < n * 6 + 6 {
-        return Written::NoRoom;
+        return Err(WriteError::NoRoom);
     }
-    Written::Sections(n)
+    Ok(n)
 }
 
 // Writes record i into its six words, which the words have. No other word changes.
@@ -107,15 +77,13 @@ fn put_section(words: &mut [u32], i: usize, s: Section)
 }
 
 // Writes the records into the words of the section table, which begins at word 6, and answers how many.
-// The other words stay. More than 64 records, or fewer words than 6 and 6 for each: none is written, and the answer says so.
-pub fn write_sections(t: &[Section], words: &mut [u32]) -> Written
+// The other words stay. More than 64 records, or fewer words than 6 and 6 for each: none is written, and the error says so.
+pub fn write_sections(t: &[Section], words: &mut [u32]) -> Result<usize, WriteError>
     ensures { (result ≡ written (length t.now) (length words.old)) × (words.new ≡ with_sections words.old t.now) }
 {
-    let n = count_of(t.len(), words.len());
-    let mut i = 0;
-    while i < n {
-        put_section(words, i, t[i]);
-        i += 1;
+    let n = room_for(t.len(), words.len())?;
+    for (i, s) in t.iter().enumerate() {
+        put_section(words, i, *s);
     }
-    answer_of(t.len(), words.len())
+    Ok(n)
 }

@@ -1,36 +1,25 @@
 // The answer to each kind of case, as docs/FORMATS.md lays it out.
-use crate::{asked, rooms};
+use crate::asked;
 use decoder::Op;
-use exchange::{file, print, read, results};
-use jump_tables::{Table, TableAnswer};
+use exchange::case::{Case, Words};
+use exchange::line::Line;
+use exchange::{file, results};
+use jump_tables::{Table, TableError};
+use words::{field, mask};
 
-// Writes the answer into the line and answers where it ends.
-pub(crate) fn answer(kind: u32, p: &[u32], im: &[u32], data: &[u8], line: &mut [u32]) -> usize {
-    match kind {
-        1 => file::judged(im, data, line),
-        2 => decode(p, line),
-        3 => print::word(
-            line,
-            0,
-            words::mask::mask_value(read::word(p, 0), read::word(p, 1)),
-        ),
-        4 => print::word(
-            line,
-            0,
-            words::mask::rotate_left(read::word(p, 0), read::word(p, 1)),
-        ),
-        5 => branch_dest(p, line),
-        6 => asked::lookup(p, im, data, line),
-        7 => step(p, im, data, line),
-        8 => table(p, im, data, line),
-        _ => 0,
-    }
-}
-
-fn is_other(op: Op) -> bool {
-    match op {
-        Op::Other => true,
-        _ => false,
+// Writes the answer into the line.
+pub(crate) fn answer(case: Case, line: &mut Line) {
+    let mut p = case.words;
+    match case.kind {
+        1 => file::judged(case, line),
+        2 => decode(p.word(), line),
+        3 => line.word(mask::mask_value(p.word(), p.word())),
+        4 => line.word(mask::rotate_left(p.word(), p.word())),
+        5 => branch_dest(p.word(), p.word(), line),
+        6 => asked::lookup(case, line),
+        7 => step(case, line),
+        8 => table(case, line),
+        _ => (),
     }
 }
 
@@ -48,146 +37,77 @@ fn class(op: Op) -> u32 {
 }
 
 fn written(w: u32, op: Op) -> u32 {
-    if is_other(op) { decoder::written(w) } else { 0 }
-}
-
-fn decode(p: &[u32], line: &mut [u32]) -> usize {
-    let w = read::word(p, 0);
-    let d = decoder::decode(w);
-    let op = d.op;
-    let at = print::word(line, 0, decoder::op_number(w));
-    let at = print::word(line, at, class(op));
-    let at = print::word(line, at, written(w, op));
-    registers(w, line, at)
-}
-
-fn registers(w: u32, line: &mut [u32], at: usize) -> usize {
-    let at = print::word(line, at, words::field::rd(w) as u32);
-    let at = print::word(line, at, words::field::ra(w) as u32);
-    let at = print::word(line, at, words::field::rb(w) as u32);
-    fields(w, line, at)
-}
-
-fn fields(w: u32, line: &mut [u32], at: usize) -> usize {
-    let at = print::word(line, at, words::field::mb(w));
-    let at = print::word(line, at, words::field::me(w));
-    let at = print::word(line, at, words::field::simm(w));
-    last_fields(w, line, at)
-}
-
-fn last_fields(w: u32, line: &mut [u32], at: usize) -> usize {
-    let at = print::word(line, at, words::field::uimm(w));
-    let at = print::word(line, at, words::field::crfd(w) as u32);
-    let at = print::flag(line, at, words::field::l(w));
-    flags(w, line, at)
-}
-
-fn flags(w: u32, line: &mut [u32], at: usize) -> usize {
-    let at = print::word(line, at, words::field::spr(w));
-    let at = print::flag(line, at, words::field::lk(w));
-    print::flag(line, at, words::field::aa(w))
-}
-
-fn is_direct_branch(op: Op) -> bool {
     match op {
-        Op::B => true,
-        Op::Bc => true,
-        _ => false,
+        Op::Other => decoder::written(w),
+        _ => 0,
     }
 }
 
-fn branch_dest(p: &[u32], line: &mut [u32]) -> usize {
-    let w = read::word(p, 0);
-    let d = decoder::decode(w);
-    let op = d.op;
-    if is_direct_branch(op) {
-        let at = print::word(line, 0, 1);
-        return print::word(line, at, decoder::branch_dest(w, read::word(p, 1)));
-    }
-    let at = print::word(line, 0, 0);
-    print::word(line, at, 0)
+fn decode(w: u32, line: &mut Line) {
+    let op = decoder::decode(w).op;
+    line.word(decoder::op_number(w));
+    line.word(class(op));
+    line.word(written(w, op));
+    line.word(field::rd(w) as u32);
+    line.word(field::ra(w) as u32);
+    line.word(field::rb(w) as u32);
+    line.word(field::mb(w));
+    line.word(field::me(w));
+    line.word(field::simm(w));
+    line.word(field::uimm(w));
+    line.word(field::crfd(w) as u32);
+    line.flag(field::l(w));
+    line.word(field::spr(w));
+    line.flag(field::lk(w));
+    line.flag(field::aa(w));
 }
 
-fn step(p: &[u32], im: &[u32], data: &[u8], line: &mut [u32]) -> usize {
-    let s = read::state(p, 3);
-    let before = s.state;
-    let r = step::step(im, data, read::place(p, 0), read::word(p, 2), before);
-    results::stepped(line, 0, r, before)
-}
-
-fn table_answer(a: TableAnswer) -> u32 {
-    match a {
-        TableAnswer::Broken => 1,
-        TableAnswer::RelocationError => 7,
-        TableAnswer::Ragged => 8,
-        TableAnswer::PointsNowhere => 9,
-        TableAnswer::Full => 10,
-        TableAnswer::Read => 0,
+fn branch_dest(w: u32, address: u32, line: &mut Line) {
+    match decoder::decode(w).op {
+        Op::B | Op::Bc => line.many(&[1, decoder::branch_dest(w, address)]),
+        _ => line.many(&[0, 0]),
     }
 }
 
-// Every entry of a buffer made the same.
-fn fill(entries: &mut [u64], key: u64) {
-    let mut i = 0;
-    while i < entries.len() {
-        entries[i] = key;
-        i += 1;
+fn step(case: Case, line: &mut Line) {
+    let mut p = case.words;
+    let at = p.place();
+    let word = p.word();
+    let before = p.state();
+    let r = step::step(case.image, case.data, at, word, before);
+    results::stepped(line, r, before);
+}
+
+// The room for a table's entries is the bound that docs/FORMATS.md gives for every file.
+fn table(case: Case, line: &mut Line) {
+    let mut room = [0u64; 2048];
+    let mut p = case.words;
+    let mut asked = p.part(8);
+    let count = (p.word() as usize).min(room.len());
+    let entries = &mut room[..count];
+    let word = u64::from(p.word());
+    entries.fill(word << 32 | word);
+    let t = table_in(case, &mut asked, entries);
+    print_table(t, entries, line);
+}
+
+fn table_in(case: Case, asked: &mut Words, entries: &mut [u64]) -> Result<Table, TableError> {
+    let table = asked.place();
+    let size = asked.word();
+    let start = asked.place();
+    let end = asked.maybe_place();
+    jump_tables::uniq_jump_table_entries(case.image, case.data, table, size, start, end, entries)
+}
+
+fn print_table(t: Result<Table, TableError>, entries: &[u64], line: &mut Line) {
+    let (answer, count, size) = match t {
+        Ok(t) => (0, t.count, t.size),
+        Err(e) => (u32::from(e), 0, 0),
+    };
+    line.word(answer);
+    line.count(count);
+    line.word(size);
+    for key in entries {
+        line.long(*key);
     }
-}
-
-fn table(p: &[u32], im: &[u32], data: &[u8], line: &mut [u32]) -> usize {
-    let mut room = rooms::entries();
-    table_with(p, im, data, &mut room, line)
-}
-
-fn table_with(p: &[u32], im: &[u32], data: &[u8], entries: &mut [u64], line: &mut [u32]) -> usize {
-    let asked = read::word(p, 8) as usize;
-    let word = read::word(p, 9) as u64;
-    let key = word * 0x1_0000_0000 + word;
-    if asked <= entries.len() {
-        return table_in(p, im, data, &mut entries[..asked], key, line);
-    }
-    table_in(p, im, data, entries, key, line)
-}
-
-fn table_in(
-    p: &[u32],
-    im: &[u32],
-    data: &[u8],
-    entries: &mut [u64],
-    key: u64,
-    line: &mut [u32],
-) -> usize {
-    fill(entries, key);
-    let end = read::maybe_place(p, 5);
-    let t = jump_tables::uniq_jump_table_entries(
-        im,
-        data,
-        read::place(p, 0),
-        read::word(p, 2),
-        read::place(p, 3),
-        end,
-        entries,
-    );
-    print_table(t, entries, line)
-}
-
-fn print_table(t: Table, entries: &[u64], line: &mut [u32]) -> usize {
-    let answer = t.answer;
-    let count = (t.count % 0x1_0000_0000) as u32;
-    let at = print::word(line, 0, table_answer(answer));
-    let at = print::word(line, at, count);
-    let at = print::word(line, at, t.size);
-    keys(entries, line, at)
-}
-
-fn keys(entries: &[u64], line: &mut [u32], at: usize) -> usize {
-    let mut at = at;
-    let mut i = 0;
-    while i < entries.len() {
-        let k = entries[i];
-        at = print::long(line, at, k);
-        i += 1;
-    }
-    at
 }

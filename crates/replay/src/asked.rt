@@ -1,56 +1,48 @@
 // Lookups in the current image: docs/FORMATS.md, kind 6.
-ghost use Rattle.std.specs.Prelude.{◌≡◌, true, ◌<◌, length};
+ghost use Rattle.std.specs.Prelude.{◌≡◌, true, length};
 ghost use Rattle.image.specs.Rules.{tables_sound, data_inside};
 
-use exchange::{print, read};
-use image::Judged;
-use lookups::{CodePlace, MaybeWord, Relocation, Wanted};
-use places::MaybeTarget;
-use search::Found;
+use exchange::case::{Case, Words};
+use exchange::line::{Line, first_four};
+use lookups::{PlaceError, Relocation, Wanted};
+use places::SectionAddress;
 
-pub(crate) fn lookup(p: &[u32], im: &[u32], bytes: &[u8], line: &mut [u32]) -> usize {
-    match image::check_image(im, bytes) {
-        Judged::Broken => print::word(line, 0, 1),
-        Judged::Sound => {
-            let at = print::word(line, 0, 0);
-            in_tables(p, im, bytes, line, at)
+pub(crate) fn lookup(case: Case, line: &mut Line) {
+    match image::check_image(case.image, case.data) {
+        Err(_) => line.word(1),
+        Ok(()) => {
+            line.word(0);
+            in_tables(case.image, case.data, case.words, line);
         }
     }
 }
 
-fn in_tables(p: &[u32], im: &[u32], bytes: &[u8], line: &mut [u32], at: usize) -> usize
+fn in_tables(im: &[u32], bytes: &[u8], asked: Words, line: &mut Line)
     requires { (tables_sound im.now ≡ true) × (data_inside im.now (length bytes.now) ≡ true) }
 {
-    let which = read::word(p, 0);
-    match which {
-        1 => found(line, at, lookups::at_address(im, read::word(p, 1))),
-        2 => found(line, at, image::elf::elf_index(im, read::word(p, 1))),
+    let mut p = asked;
+    match p.word() {
+        1 => found(lookups::at_address(im, p.word()), line),
+        2 => found(image::elf::elf_index(im, p.word()), line),
         3 => relocation(
+            lookups::relocation_target_for(im, p.place(), wanted(p.word())),
             line,
-            at,
-            lookups::relocation_target_for(im, read::place(p, 1), wanted(read::word(p, 3))),
         ),
-        4 => print::maybe_target(
-            line,
-            at,
-            lookups::section_address_for(im, read::place(p, 1), read::word(p, 3)),
-        ),
-        5 => print::word(line, at, lookups::known_size(im, read::place(p, 1))),
-        6 => sums(lookups::data_from(im, bytes, read::place(p, 1)), line, at),
-        7 => visited_bit(p, im, line, at),
-        _ => word_there(line, at, lookups::read_u32(im, bytes, read::place(p, 1))),
+        4 => line.maybe_target(lookups::section_address_for(im, p.place(), p.word())),
+        5 => line.word(lookups::known_size(im, p.place())),
+        6 => sums(lookups::data_from(im, bytes, p.place()), line),
+        7 => visited_bit(im, p.place(), line),
+        _ => word_there(lookups::read_u32(im, bytes, p.place()), line),
     }
 }
 
-fn two(line: &mut [u32], at: usize, a: u32, b: u32) -> usize {
-    let at = print::word(line, at, a);
-    print::word(line, at, b)
-}
-
-fn found(line: &mut [u32], at: usize, f: Found) -> usize {
+fn found(f: Option<usize>, line: &mut Line) {
     match f {
-        Found::Nothing => two(line, at, 0, 0),
-        Found::At(i) => two(line, at, 1, (i % 0x1_0000_0000) as u32),
+        None => line.many(&[0, 0]),
+        Some(i) => {
+            line.word(1);
+            line.count(i);
+        }
     }
 }
 
@@ -62,65 +54,49 @@ fn wanted(n: u32) -> Wanted {
     }
 }
 
-fn relocation(line: &mut [u32], at: usize, r: Relocation) -> usize {
+fn relocation(r: Relocation, line: &mut Line) {
     match r {
-        Relocation::Nothing => {
-            let at = print::word(line, at, 0);
-            print::maybe_target(line, at, MaybeTarget::Missing)
+        Ok(None) => {
+            line.word(0);
+            line.maybe_target(None);
         }
-        Relocation::Error => {
-            let at = print::word(line, at, 1);
-            print::maybe_target(line, at, MaybeTarget::Missing)
+        Err(_) => {
+            line.word(1);
+            line.maybe_target(None);
         }
-        Relocation::To(t) => {
-            let at = print::word(line, at, 0);
-            print::maybe_target(line, at, MaybeTarget::Known(t))
+        Ok(Some(t)) => {
+            line.word(0);
+            line.maybe_target(Some(t));
         }
     }
 }
 
-fn word_there(line: &mut [u32], at: usize, m: MaybeWord) -> usize {
+fn word_there(m: Option<u32>, line: &mut Line) {
     match m {
-        MaybeWord::Missing => two(line, at, 0, 0),
-        MaybeWord::Read(w) => two(line, at, 1, w),
+        None => line.many(&[0, 0]),
+        Some(w) => line.many(&[1, w]),
     }
 }
 
 // How many bytes, two running sums, and the first four bytes.
-fn sums(bytes: &[u8], line: &mut [u32], at: usize) -> usize {
+fn sums(bytes: &[u8], line: &mut Line) {
     let mut first: u32 = 0;
     let mut second: u32 = 0;
-    let mut i = 0;
-    while i < bytes.len() {
-        first = words::sum::wrapping_add(first, wide(bytes[i]) + 1);
-        second = words::sum::wrapping_add(second, first);
-        i += 1;
+    for b in bytes {
+        first = first.wrapping_add(u32::from(*b) + 1);
+        second = second.wrapping_add(first);
     }
-    let at = two(line, at, (bytes.len() % 0x1_0000_0000) as u32, first);
-    two(line, at, second, print::four(bytes, 0))
+    line.count(bytes.len());
+    line.many(&[first, second, first_four(bytes)]);
 }
 
-fn wide(b: u8) -> u32
-    ensures { result < 256 }
-{
-    b as u32
-}
-
-fn visited_bit(p: &[u32], im: &[u32], line: &mut [u32], at: usize) -> usize
+fn visited_bit(im: &[u32], place: SectionAddress, line: &mut Line)
     requires { tables_sound im.now ≡ true }
 {
-    let place = read::place(p, 1);
-    let at = print::word(
-        line,
-        at,
-        (image::code::code_words(im) % 0x1_0000_0000) as u32,
-    );
+    line.count(image::code::code_words(im));
     match lookups::code_place(im, place) {
-        CodePlace::NotCode => two(line, at, 2, 0),
-        CodePlace::Misaligned => two(line, at, 3, 0),
-        CodePlace::Fine => {
-            let n = lookups::word_number(im, place);
-            two(line, at, 0, n.0)
-        }
+        Err(PlaceError::NotCode) => line.many(&[2, 0]),
+        Err(PlaceError::Misaligned) => line.many(&[3, 0]),
+        Ok(()) => line.many(&[0, lookups::word_number(im, place).0]),
     }
 }

@@ -1,96 +1,51 @@
 // Walks: docs/FORMATS.md, kind 10.
-ghost use Rattle.std.specs.Prelude.{◌≤◌, length};
-
 use crate::rooms;
+use exchange::case::{Case, Words};
 use exchange::file::least;
-use exchange::read::plus;
-use exchange::{print, read, stacks};
-use turns::{WalkAnswer, Walked};
-use vm::MaybeBase;
+use exchange::line::Line;
+use exchange::stacks;
+use streams::room;
+use turns::Walked;
 
-pub(crate) fn walk(p: &[u32], im: &[u32], data: &[u8], line: &mut [u32]) -> usize {
-    let mut map = rooms::map();
-    let mut stack = rooms::stack();
-    let mut starts = rooms::starts();
-    fill(&mut map, read::word(p, 2));
-    read_starts(p, &mut starts);
-    walk_with(p, im, data, &starts, &mut map, &mut stack, line)
-}
-
-// Every word of a map made the same.
-fn fill(map: &mut [u32], w: u32) {
-    let mut i = 0;
-    while i < map.len() {
-        map[i] = w;
-        i += 1;
-    }
+// A case's first words: the slots, how many words the map has and what fills it. The walk's own words follow.
+pub(crate) fn walk(case: Case, line: &mut Line) {
+    let mut p = case.words;
+    let words = least(stacks::words_of(p.word()), rooms::STACK);
+    let m = least(p.word() as usize, rooms::MAP);
+    let mut map: [u32; rooms::MAP] = room(p.word());
+    let mut stack: [u32; rooms::STACK] = room(0);
+    walk_in(case, p, &mut map[..m], &mut stack[..words], line);
 }
 
 // A start: its section times 2^32 plus its address.
-fn key(p: &[u32], at: usize) -> u64 {
-    let section = read::word(p, at) as u64;
-    let address = read::word(p, plus(at, 1)) as u64;
+fn key(p: &mut Words) -> u64 {
+    let section = u64::from(p.word());
+    let address = u64::from(p.word());
     section * 0x1_0000_0000 + address
 }
 
-fn read_starts(p: &[u32], starts: &mut [u64]) {
-    let mut at: usize = 13;
-    let mut i = 0;
-    while i < starts.len() {
-        starts[i] = key(p, at);
-        at = plus(at, 2);
-        i += 1;
+fn base(p: &mut Words) -> Option<u32> {
+    let given = p.word() == 1;
+    let number = p.word();
+    if given { Some(number) } else { None }
+}
+
+fn walk_in(case: Case, asked: Words, map: &mut [u32], stack: &mut [u32], line: &mut Line) {
+    let mut p = asked;
+    let two = base(&mut p);
+    let thirteen = base(&mut p);
+    let from = p.place();
+    let upto = p.maybe_place();
+    let n = least(p.word() as usize, rooms::STARTS);
+    let mut starts: [u64; rooms::STARTS] = room(0);
+    for start in starts.iter_mut() {
+        *start = key(&mut p);
     }
-}
-
-fn walk_with(
-    p: &[u32],
-    im: &[u32],
-    data: &[u8],
-    starts: &[u64],
-    map: &mut [u32],
-    stack: &mut [u32],
-    line: &mut [u32],
-) -> usize {
-    let words = least(stacks::words_of(read::word(p, 0)), stack.len());
-    let m = least(read::word(p, 1) as usize, map.len());
-    let n = least(read::word(p, 12) as usize, starts.len());
-    walk_in(
-        p,
-        im,
-        data,
-        &starts[..n],
-        &mut map[..m],
-        &mut stack[..words],
-        line,
-    )
-}
-
-fn base(p: &[u32], i: usize) -> MaybeBase {
-    if read::word(p, i) == 1 {
-        return MaybeBase::Value(read::word(p, plus(i, 1)));
-    }
-    MaybeBase::Unset
-}
-
-fn walk_in(
-    p: &[u32],
-    im: &[u32],
-    data: &[u8],
-    starts: &[u64],
-    map: &mut [u32],
-    stack: &mut [u32],
-    line: &mut [u32],
-) -> usize {
-    let two = base(p, 3);
-    let thirteen = base(p, 5);
-    let from = read::place(p, 7);
-    let upto = read::maybe_place(p, 9);
     let mut entries = [0u64; 1024];
     let w = walk::walk(
-        im,
-        data,
-        starts,
+        case.image,
+        case.data,
+        &starts[..n],
         two,
         thirteen,
         from,
@@ -99,31 +54,15 @@ fn walk_in(
         stack,
         &mut entries,
     );
-    walked(line, w, map, stack)
+    walked(w, map, stack, line);
 }
 
-fn walked(line: &mut [u32], w: Walked, map: &[u32], stack: &[u32]) -> usize {
-    let answer = w.answer;
-    let at = print::word(line, 0, number(answer));
-    let at = counts(line, at, w);
-    let at = print::many(line, at, map);
-    stacks::held(stack, w.held, line, at)
-}
-
-fn number(a: WalkAnswer) -> u32 {
-    match a {
-        WalkAnswer::Done => 0,
-        WalkAnswer::BrokenImage => 1,
-        WalkAnswer::NotCode => 2,
-        WalkAnswer::Misaligned => 3,
-        WalkAnswer::MapTooSmall => 4,
-        WalkAnswer::StackFull => 5,
-    }
-}
-
-fn counts(line: &mut [u32], at: usize, w: Walked) -> usize {
-    let at = print::long(line, at, w.stepped);
-    let at = print::long(line, at, w.begun);
-    let at = print::long(line, at, w.read);
-    print::long(line, at, w.not_read)
+fn walked(w: Walked, map: &[u32], stack: &[u32], line: &mut Line) {
+    line.word(w.answer.map_or_else(u32::from, |_| 0));
+    line.long(w.stepped);
+    line.long(w.begun);
+    line.long(w.read);
+    line.long(w.not_read);
+    line.many(map);
+    stacks::held(stack, w.held, line);
 }

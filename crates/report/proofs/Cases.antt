@@ -7,8 +7,7 @@ use Rattle.search.specs.Every.{every}
 use Rattle.image.specs.Rules.{sections_sound, elf_distinct, sections_apart, words_before, bounds_sound, ascending, unbounds_sound, symbols_sound, tables_sound, data_inside}
 use Rattle.varint.specs.Groups.{groups, read_groups}
 use Rattle.visited.specs.Bits.{with_run, cleared}
-use Rattle.report.specs.declared.Wrote.TheVariants.{Bytes}
-use Rattle.report.specs.declared.Done.TheVariants.{Done}
+use Rattle.std.specs.Prelude.{Ok}
 use Rattle.report.specs.Runs.{runs, tab}
 use Rattle.report.specs.Bytes.{run_bytes, sections_bytes}
 use Rattle.report.specs.Reading.{read_runs, read_sections, read_report}
@@ -27,7 +26,7 @@ abbrev c13_report : List ℕ
 c13_report = 0x01 ∷ 0x01 ∷ 0x02 ∷ 0x00 ∷ 0x03 ∷ 0x02 ∷ 0x01 ∷ []
 
 -- written into eight bytes it leaves the last as it was
-pub c13_written : write_answer c13_image 32 c13_map 8 ≡ Bytes 7
+pub c13_written : write_answer c13_image 32 c13_map 8 ≡ Ok 7
 unfolding every sections_sound elf_distinct sections_apart words_before bounds_sound ascending unbounds_sound symbols_sound tables_sound data_inside groups runs tab run_bytes sections_bytes
 c13_written = refl
 
@@ -36,7 +35,7 @@ unfolding every sections_sound elf_distinct sections_apart words_before bounds_s
 c13_leaves = refl
 
 -- read into a map of ones it sets the 8 bits, and those above stay
-pub c13_read : read_answer c13_image 32 c13_report (0xFFFFFFFF ∷ []) ≡ Done
+pub c13_read : read_answer c13_image 32 c13_report (0xFFFFFFFF ∷ []) ≡ Ok tt
 unfolding every sections_sound elf_distinct sections_apart words_before bounds_sound ascending unbounds_sound symbols_sound tables_sound data_inside read_groups read_runs read_sections read_report
 c13_read = refl
 

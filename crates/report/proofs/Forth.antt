@@ -8,14 +8,12 @@ use lib.ListN.{length, length-append}
 use borrow.Author.Tests.{eq-eqb}
 use Rattle.image.specs.Layout.{sections}
 use Rattle.image.specs.Rules.{code_words}
-use Rattle.varint.specs.declared.Read.TheVariants.{Number}
 use Rattle.varint.specs.Groups.{varint, number_at}
 use Rattle.varint.proofs.Stands.{Stands, reads}
-use Rattle.report.specs.declared.Place.{Place}
-use Rattle.report.specs.declared.Place.TheVariants.{At}
+use Rattle.std.specs.Prelude.{Some}
 use Rattle.report.specs.Runs.{Run, words_at}
 use Rattle.report.specs.Bytes.{run_bytes, section_bytes, sections_bytes, report_bytes}
-use Rattle.report.specs.Reading.{Parsed, after, read_runs, read_section, AllParsed, after_section, read_sections, head_at, whole, read_report}
+use Rattle.report.specs.Reading.{Place, Parsed, after, read_runs, read_section, AllParsed, after_section, read_sections, head_at, whole, read_report}
 use Rattle.report.proofs.RunLaws.{no_bytes, run_bytes_lem}
 use Rattle.report.proofs.Laying.{words_within, sections_nil, sections_cons}
 use Rattle.report.proofs.ReadLaws.{RunTold, run_found, runs_done, runs_more, section_counted, sections_done, sections_more, and_on_at, head_read, right_end}
@@ -24,10 +22,10 @@ use Rattle.report.proofs.Fitting.{Fits, AllFit, fitting_few}
 
 -- what is read whole, to a place
 abbrev pub read_to : List Run → ℕ → Parsed
-read_to rs e = record { runs = rs; end = At e }
+read_to rs e = record { runs = rs; end = Some e }
 
 abbrev pub all_read_to : List (List Run) → ℕ → AllParsed
-all_read_to rss e = record { runs = rss; end = At e }
+all_read_to rss e = record { runs = rss; end = Some e }
 
 module _ (s : List ℕ) where
   runs_forth : (rs : List Run) (least left at : ℕ) → Fits least left rs → left < 2 ^ 32 → Stands s at (run_bytes rs)
@@ -46,7 +44,7 @@ module _ (s : List ℕ) where
       record {
         mid = at + length (varint g);
         gap = reads s g at (omega arith) v.0;
-        len = reads s l (at + length (varint g)) (omega arith) v.1 ∙ ap (Number l) place;
+        len = reads s l (at + length (varint g)) (omega arith) v.1 ∙ ap (λ (k : ℕ). Some (l, k)) place;
         apart = h.0;
         some = h.1;
         inside = h.2;
@@ -96,11 +94,11 @@ report_forth im rss h n few small =
     let m : length front ≡ length (varint 1) + length (varint (length rss)) = length-append (varint 1) (varint (length rss)) in
     let f : ℕ = 0 + length front in
     let place : 0 + length (varint 1) + length (varint (length rss)) ≡ f = omega arith in
-    let first : number_at s 0 ≡ Number 1 (0 + length (varint 1)) = reads s 1 0 (omega arith) v.0 in
-    let second : number_at s (0 + length (varint 1)) ≡ Number (length rss) f = reads s (length rss) (0 + length (varint 1)) (omega arith) v.1 ∙ ap (Number (length rss)) place in
-    let head : head_at s (sections im) ≡ At f = rw (first, second, eq-eqb (length rss) (sections im) n) in
+    let first : number_at s 0 ≡ Some (1, 0 + length (varint 1)) = reads s 1 0 (omega arith) v.0 in
+    let second : number_at s (0 + length (varint 1)) ≡ Some (length rss, f) = reads s (length rss) (0 + length (varint 1)) (omega arith) v.1 ∙ ap (λ (k : ℕ). Some (length rss, k)) place in
+    let head : head_at s (sections im) ≡ Some f = rw (first, second, eq-eqb (length rss) (sections im) n) in
     let long : f + length (sections_bytes rss) ≡ length s =
     let q : length s ≡ length front + length (sections_bytes rss) = length-append front (sections_bytes rss) in omega arith in
     let all : read_sections im s (sections im) 0 f ≡ all_read_to rss (length s) =
     ap (λ (k : ℕ). read_sections im s k 0 f) (sym n) ∙ sections_forth s im rss 0 f h (omega arith) small w.1 ∙ ap (all_read_to rss) long in
-    head_read im s f head ∙ ap (whole s) all ∙ ap (λ (p : Place). record { runs = rss; end = p }) (right_end s (At (length s)) (length s) refl refl)
+    head_read im s f head ∙ ap (whole s) all ∙ ap (λ (p : Place). record { runs = rss; end = p }) (right_end s (Some (length s)) (length s) refl refl)

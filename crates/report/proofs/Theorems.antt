@@ -16,13 +16,12 @@ use Rattle.image.proofs.CodeWords.{words_none}
 use Rattle.image.specs.Laid as image
 use Rattle.varint.proofs.Stands.{Bytes}
 use Rattle.visited.specs.Bits.{bit_at, visited_at, has_room}
-use Rattle.report.specs.declared.Place.{Place}
-use Rattle.report.specs.declared.Place.TheVariants.{At, Lost}
-use Rattle.report.specs.declared.Done.{Done}
-use Rattle.report.specs.declared.Done.TheVariants as done
+use Rattle.std.specs.Prelude.{Some, None, Result, Ok, Err, ⊤}
+use Rattle.report.specs.declared.ReadError.{ReadError}
+use Rattle.report.specs.declared.ReadError.TheVariants as read
 use Rattle.report.specs.Runs.{Run, runs_of, tab, words_at, runs_in, all_runs}
 use Rattle.report.specs.Bytes.{report_bytes, report_of}
-use Rattle.report.specs.Reading.{AllParsed, on_place, read_report}
+use Rattle.report.specs.Reading.{Place, AllParsed, on_place, read_report}
 use Rattle.report.specs.Marks.{map_of}
 use Rattle.report.specs.Answers.{read_answer, read_leaves}
 use Rattle.report.proofs.RunLaws.{tab_length}
@@ -40,8 +39,8 @@ report_reads im ws n e =
     report_forth im (all_runs im ws) (map_runs_fit im ws 0 (sections im)) (tab_length (runs_in im ws) 0 (sections im)) (omega (arith, t.0.few_sections)) (omega arith)
 
 -- what was written for one map and is read into another: the first one's bits below W, the other's from W up
-pub record Carried (im ws vs : List ℕ) (r : Done) (after : List ℕ) : Type 0 where
-  pub accepted : r ≡ done.Done
+pub record Carried (im ws vs : List ℕ) (r : Result ⊤ ReadError) (after : List ℕ) : Type 0 where
+  pub accepted : r ≡ Ok tt
   pub below : (j : ℕ) → j < code_words im → bit_at after j ≡ bit_at ws j
   pub above : (j : ℕ) → code_words im ≤ j → bit_at after j ≡ bit_at vs j
 
@@ -71,20 +70,20 @@ pub record Accepted (im : List ℕ) (n : ℕ) (s vs : List ℕ) : Type 0 where
   pub sound_image : sound im n ≡ true
   pub room : has_room vs (code_words im) ≡ true
   pub place : ℕ
-  pub to_end : (read_report im s).end ≡ At place
+  pub to_end : (read_report im s).end ≡ Some place
 
 by_answer : (im : List ℕ) (n : ℕ) (s vs : List ℕ) (a b : Bool) (p : Place) → sound im n ≡ a → has_room vs (code_words im) ≡ b → (read_report im s).end ≡ p
-    → pick a (pick b (on_place p (λ e. done.Done) done.NoReport) done.SmallMap) done.BrokenImage ≡ done.Done → Accepted im n s vs
+    → ◌≡◌ {A = Result ⊤ ReadError} (pick a (pick b (on_place p (λ e. Ok tt) (Err read.NoReport)) (Err read.SmallMap)) (Err read.BrokenImage)) (Ok tt) → Accepted im n s vs
 by_answer im n s vs false b p ea eb ep h = let z : ◌≡◌ {A = ℕ} 0 1 = cc in absurd (omega arith)
 by_answer im n s vs true false p ea eb ep h = let z : ◌≡◌ {A = ℕ} 0 1 = cc in absurd (omega arith)
-by_answer im n s vs true true Lost ea eb ep h = let z : ◌≡◌ {A = ℕ} 0 1 = cc in absurd (omega arith)
-by_answer im n s vs true true (At e) ea eb ep h = record { sound_image = ea; room = eb; place = e; to_end = ep }
+by_answer im n s vs true true None ea eb ep h = let z : ◌≡◌ {A = ℕ} 0 1 = cc in absurd (omega arith)
+by_answer im n s vs true true (Some e) ea eb ep h = record { sound_image = ea; room = eb; place = e; to_end = ep }
 
-pub accepted : (im : List ℕ) (n : ℕ) (s vs : List ℕ) → read_answer im n s vs ≡ done.Done → Accepted im n s vs
+pub accepted : (im : List ℕ) (n : ℕ) (s vs : List ℕ) → read_answer im n s vs ≡ Ok tt → Accepted im n s vs
 accepted im n s vs h = by_answer im n s vs (sound im n) (has_room vs (code_words im)) (read_report im s).end refl refl refl h
 
 -- what was read is the report of the map that reading left
-pub read_is_report : (im : List ℕ) (n : ℕ) (s vs : List ℕ) → Bytes s → read_answer im n s vs ≡ done.Done → s ≡ report_of im (read_leaves im n s vs)
+pub read_is_report : (im : List ℕ) (n : ℕ) (s vs : List ℕ) → Bytes s → read_answer im n s vs ≡ Ok tt → s ≡ report_of im (read_leaves im n s vs)
 read_is_report im n s vs bytes h =
     let a : Accepted im n s vs = accepted im n s vs h in
     let rss : List (List Run) = (read_report im s).runs in
@@ -109,33 +108,33 @@ same_bits_same_report im ws vs h =
     (λ j l r. ap (λ (x : ℕ). eqb x 1) (h j (omega (arith, words_within im i (omega arith))))))))
 
 -- two reports of one image that read to the same bits are the same bytes
-pub one_report : (im : List ℕ) (n : ℕ) (s t vs us : List ℕ) → Bytes s → Bytes t → read_answer im n s vs ≡ done.Done → read_answer im n t us ≡ done.Done
+pub one_report : (im : List ℕ) (n : ℕ) (s t vs us : List ℕ) → Bytes s → Bytes t → read_answer im n s vs ≡ Ok tt → read_answer im n t us ≡ Ok tt
     → ((j : ℕ) → j < code_words im → bit_at (read_leaves im n s vs) j ≡ bit_at (read_leaves im n t us) j) → s ≡ t
 one_report im n s t vs us bs bt hs ht same =
     read_is_report im n s vs bs hs ∙ same_bits_same_report im (read_leaves im n s vs) (read_leaves im n t us) same ∙ sym (read_is_report im n t us bt ht)
 
 -- 13 is given for no report of the image
 judged_no_report : (im : List ℕ) (n : ℕ) (s vs : List ℕ) (a b : Bool) (p : Place)
-    → pick a (pick b (on_place p (λ e. done.Done) done.NoReport) done.SmallMap) done.BrokenImage ≡ done.NoReport → (a ≡ true) × (p ≡ Lost)
+    → ◌≡◌ {A = Result ⊤ ReadError} (pick a (pick b (on_place p (λ e. Ok tt) (Err read.NoReport)) (Err read.SmallMap)) (Err read.BrokenImage)) (Err read.NoReport) → (a ≡ true) × (p ≡ None)
 judged_no_report im n s vs false b p h = let z : ◌≡◌ {A = ℕ} 0 1 = cc in absurd (omega arith)
 judged_no_report im n s vs true false p h = let z : ◌≡◌ {A = ℕ} 0 1 = cc in absurd (omega arith)
-judged_no_report im n s vs true true Lost h = (refl, refl)
-judged_no_report im n s vs true true (At e) h = let z : ◌≡◌ {A = ℕ} 0 1 = cc in absurd (omega arith)
+judged_no_report im n s vs true true None h = (refl, refl)
+judged_no_report im n s vs true true (Some e) h = let z : ◌≡◌ {A = ℕ} 0 1 = cc in absurd (omega arith)
 
-pub thirteen_is_no_report : (im : List ℕ) (n : ℕ) (s vs : List ℕ) → read_answer im n s vs ≡ done.NoReport → (ws : List ℕ) → s ≡ report_of im ws → ⊥
+pub thirteen_is_no_report : (im : List ℕ) (n : ℕ) (s vs : List ℕ) → read_answer im n s vs ≡ Err read.NoReport → (ws : List ℕ) → s ≡ report_of im ws → ⊥
 thirteen_is_no_report im n s vs h ws e =
-    let j : (sound im n ≡ true) × ((read_report im s).end ≡ Lost) = judged_no_report im n s vs (sound im n) (has_room vs (code_words im)) (read_report im s).end h in
+    let j : (sound im n ≡ true) × ((read_report im s).end ≡ None) = judged_no_report im n s vs (sound im n) (has_room vs (code_words im)) (read_report im s).end h in
     let x : read_report im s ≡ all_read_to (all_runs im ws) (length (report_of im ws)) = ap (read_report im) e ∙ report_reads im ws n j.0 in
-    let q : At (length (report_of im ws)) ≡ Lost = ap (λ (p : AllParsed). p.end) (sym x) ∙ j.1 in
+    let q : Some (length (report_of im ws)) ≡ None = ap (λ (p : AllParsed). p.end) (sym x) ∙ j.1 in
     let z : ◌≡◌ {A = ℕ} 0 1 = cc in
     omega arith
 
 -- and what is no report of the image is given 13
 by_place : (im : List ℕ) (n : ℕ) (s vs : List ℕ) → Bytes s → sound im n ≡ true → has_room vs (code_words im) ≡ true → ((ws : List ℕ) → s ≡ report_of im ws → ⊥)
-    → (p : Place) → (read_report im s).end ≡ p → read_answer im n s vs ≡ done.NoReport
-by_place im n s vs bytes e h other Lost q = sym (read_no_report im n s vs e h (sym q)).0
-by_place im n s vs bytes e h other (At d) q = absurd (other (read_leaves im n s vs) (read_is_report im n s vs bytes (sym (read_done im n s vs e h d (sym q)).0)))
+    → (p : Place) → (read_report im s).end ≡ p → read_answer im n s vs ≡ Err read.NoReport
+by_place im n s vs bytes e h other None q = sym (read_no_report im n s vs e h (sym q)).0
+by_place im n s vs bytes e h other (Some d) q = absurd (other (read_leaves im n s vs) (read_is_report im n s vs bytes (sym (read_done im n s vs e h d (sym q)).0)))
 
 pub no_report_is_thirteen : (im : List ℕ) (n : ℕ) (s vs : List ℕ) → Bytes s → sound im n ≡ true → has_room vs (code_words im) ≡ true
-    → ((ws : List ℕ) → s ≡ report_of im ws → ⊥) → read_answer im n s vs ≡ done.NoReport
+    → ((ws : List ℕ) → s ≡ report_of im ws → ⊥) → read_answer im n s vs ≡ Err read.NoReport
 no_report_is_thirteen im n s vs bytes e h other = by_place im n s vs bytes e h other (read_report im s).end refl

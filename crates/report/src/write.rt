@@ -30,25 +30,20 @@ fn turn(buf: &mut [u8], s: Scan, v: bool) -> Scan
     requires { (s.at + 10 < 2 ^ 64) × (s.gap + s.len + 1 < 2 ^ 32) }
     ensures { Turned buf.old buf.new s result v }
 {
-    let at = s.at;
-    let gap = s.gap;
-    let len = s.len;
     if v {
         return Scan {
-            at,
-            gap,
-            len: len + 1,
+            len: s.len + 1,
+            ..s
         };
     }
-    if len == 0 {
+    if s.len == 0 {
         return Scan {
-            at,
-            gap: gap + 1,
-            len,
+            gap: s.gap + 1,
+            ..s
         };
     }
-    let p = varint::put(buf, at, gap);
-    let q = varint::put(buf, p, len);
+    let p = varint::put(buf, s.at, s.gap);
+    let q = varint::put(buf, p, s.len);
     Scan {
         at: q,
         gap: 1,
@@ -61,14 +56,11 @@ fn finish(buf: &mut [u8], s: Scan) -> usize
     requires { s.at + 10 < 2 ^ 64 }
     ensures { Laid buf.old buf.new s.at (yet s []) result }
 {
-    let at = s.at;
-    let gap = s.gap;
-    let len = s.len;
-    if len == 0 {
-        return at;
+    if s.len == 0 {
+        return s.at;
     }
-    let p = varint::put(buf, at, gap);
-    varint::put(buf, p, len)
+    let p = varint::put(buf, s.at, s.gap);
+    varint::put(buf, p, s.len)
 }
 
 // The runs of some words from one on.
@@ -78,11 +70,9 @@ fn write_runs(buf: &mut [u8], at: usize, map: &[u32], from: WordNumber, words: u
 {
     let b = from.0;
     let mut s = Scan { at, gap: 0, len: 0 };
-    let mut j: u32 = 0;
-    while j < words {
+    for j in 0..words {
         let v = visited::contains(map, WordNumber(b + j));
         s = turn(buf, s, v);
-        j += 1;
     }
     finish(buf, s)
 }
@@ -91,13 +81,7 @@ fn write_runs(buf: &mut [u8], at: usize, map: &[u32], from: WordNumber, words: u
 fn closes(last: bool, v: bool) -> u32
     ensures { result ≡ closed_by last v }
 {
-    if last {
-        if v {
-            return 0;
-        }
-        return 1;
-    }
-    0
+    if last && !v { 1 } else { 0 }
 }
 
 // How many runs there are in some words from one on.
@@ -108,12 +92,10 @@ fn count_runs(map: &[u32], from: WordNumber, words: u32) -> u32
     let b = from.0;
     let mut n: u32 = 0;
     let mut last = false;
-    let mut j: u32 = 0;
-    while j < words {
+    for j in 0..words {
         let v = visited::contains(map, WordNumber(b + j));
         n += closes(last, v);
         last = v;
-        j += 1;
     }
     n + closes(last, false)
 }
@@ -136,12 +118,10 @@ fn write_sections(buf: &mut [u8], at: usize, im: &[u32], map: &[u32]) -> usize
     let n = section_count(im);
     let mut p = at;
     let mut b: u32 = 0;
-    let mut i: usize = 0;
-    while i < n {
+    for i in 0..n {
         let c = words_at(im, i);
         p = write_section(buf, p, map, WordNumber(b), c);
         b += c;
-        i += 1;
     }
     p
 }
@@ -161,9 +141,5 @@ pub fn write_whole(buf: &mut [u8], im: &[u32], map: &[u32]) -> usize
 pub fn clear_bytes(buf: &mut [u8])
     ensures { buf.new ≡ replicate (length buf.old) 0 }
 {
-    let mut i: usize = 0;
-    while i < buf.len() {
-        buf[i] = 0;
-        i += 1;
-    }
+    buf.fill(0);
 }

@@ -1,5 +1,6 @@
 -- A straight run, word by word: from each place on it comes to the same end.
 -- Assumes nothing.
+use Rattle.std.specs.Prelude.{Option, Some, None}
 use mathlib.Core.Path.{◌≡◌, refl, sym, ap, ◌∙◌}
 use mathlib.Core.Bool.{Bool, true, false}
 use mathlib.Core.List.{List}
@@ -10,8 +11,6 @@ use Rattle.words.specs.Bytes.{be32}
 use Rattle.words.specs.Choice.{pick}
 use Rattle.places.specs.Places.{moved}
 use Rattle.places.specs.declared.SectionAddress.{SectionAddress}
-use Rattle.places.specs.declared.MaybeTarget.{MaybeTarget}
-use Rattle.places.specs.declared.MaybeTarget.TheVariants.{Missing, Known}
 use Rattle.vm.specs.declared.Gpr.{Gpr}
 use Rattle.vm.specs.declared.VM.{VM}
 use Rattle.vm.specs.Registers.{cr_at}
@@ -26,6 +25,7 @@ use Rattle.step.specs.Runs.{on_going, leave_by, stopped_at, run_of}
 use Rattle.turns.specs.Straight.{is_ended}
 use Rattle.turns.proofs.Stepping.{way_leaves}
 use Rattle.runs.specs.Went.{went_of}
+use Rattle.places.specs.declared.RelocationTarget.{RelocationTarget}
 
 -- leaving never goes on
 left_stops : {A : Type 0} (l : Leave) (at : SectionAddress) (s : VM) (go stop : A) → on_going (left_of l at s).result go stop ≡ stop
@@ -37,9 +37,9 @@ left_stops (Call t) at s go stop = refl
 left_stops (Fork t k v u) at s go stop = refl
 left_stops (Both t) at s go stop = refl
 
-access_goes : {A : Type 0} (seen : MaybeTarget) (g : Gpr) (w : ℕ) (go stop : A) → on_going (access_result seen g w) go stop ≡ go
-access_goes (Known t) g w go stop = refl
-access_goes Missing g w go stop = refl
+access_goes : {A : Type 0} (seen : Option RelocationTarget) (g : Gpr) (w : ℕ) (go stop : A) → on_going (access_result seen g w) go stop ≡ go
+access_goes (Some t) g w go stop = refl
+access_goes None g w go stop = refl
 
 no : true ≡ false → ⊥
 no e = omega (arith, ap (λ (b : Bool). pick {A = ℕ} b 1 0) e)

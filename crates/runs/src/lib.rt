@@ -26,19 +26,7 @@ pub struct Halted {
 pub fn is_ended(l: Leave) -> bool
     ensures { result ≡ is_ended l }
 {
-    match l {
-        Leave::Ended => true,
-        Leave::Illegal => false,
-        Leave::Jump(_) => false,
-        Leave::Call(_) => false,
-        Leave::Fork {
-            target: _,
-            crf: _,
-            stays: _,
-            goes: _,
-        } => false,
-        Leave::Both(_) => false,
-    }
+    matches!(l, Leave::Ended)
 }
 
 // `code` is the bytes from the place on, to its section's end.
@@ -47,15 +35,12 @@ pub fn run(im: &[u32], code: &[u8], at: SectionAddress, cells: &mut [u32]) -> Ha
     ensures { Halts im.now code.now at (state_of cells.old) result cells.new }
 {
     let mut p = at;
-    let mut i: usize = 0;
-    while 4 <= code.len() - i {
-        let l = one(im, p, words::bytes::four(code, i), cells);
-        if is_ended(l) {
-            p = places::offset(p, 4);
-            i = i + 4;
-            continue;
+    for k in 0..code.len() / 4 {
+        let l = one(im, p, words::bytes::four(code, k * 4), cells);
+        if !is_ended(l) {
+            return Halted { leave: l, at: p };
         }
-        return Halted { leave: l, at: p };
+        p = places::offset(p, 4);
     }
     Halted {
         leave: Leave::Ended,

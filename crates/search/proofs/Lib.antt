@@ -4,3 +4,4 @@ pub mod FirstMatch
 pub mod EveryLaws
 pub mod Conjunction
 pub mod Answers
+pub mod Chains

@@ -4,5 +4,4 @@
 
 pub mod counts;
 mod runs;
-pub mod say;
 pub mod sections;

@@ -1,55 +1,44 @@
-// Runs of visited words, found in the map: words are counted from a section's first, which has the number `base`.
-ghost use Rattle.std.specs.Prelude.{true, false, ◌+◌, ◌<◌, ◌≤◌, ◌^◌, ◌≡◌};
+// A section's Code words in the map, counted from its first.
+ghost use Rattle.std.specs.Prelude.{◌+◌, ◌<◌, ◌≤◌, ◌^◌, ◌≡◌};
 ghost use Rattle.shown.specs.Counted.{visited_in};
 ghost use Rattle.shown.specs.Sought.{Sought};
 
 use lookups::WordNumber;
 
-// The first visited word from j on, or how many words there are.
-pub(crate) fn visited_from(map: &[u32], base: u32, words: u32, j: u32) -> u32
-    requires { (base + words < 2 ^ 32) × (j ≤ words) }
-    ensures { Sought map.now base words j true result }
-{
-    let mut k = j;
-    while k < words {
-        if visited::contains(map, WordNumber(base + k)) {
-            return k;
-        }
-        k += 1;
-    }
-    words
+// So many words, the first of which has the number `base`.
+#[derive(Clone, Copy)]
+pub(crate) struct CodeWords {
+    pub(crate) base: u32,
+    pub(crate) count: u32,
+    ghost numbered: { base + count < 2 ^ 32 },
+    ghost addressed: { count < 2 ^ 30 },
 }
 
-// The first word from j on that was not visited, or how many words there are.
-pub(crate) fn unvisited_from(map: &[u32], base: u32, words: u32, j: u32) -> u32
-    requires { (base + words < 2 ^ 32) × (j ≤ words) }
-    ensures { Sought map.now base words j false result }
-{
-    let mut k = j;
-    while k < words {
-        if !visited::contains(map, WordNumber(base + k)) {
-            return k;
+impl CodeWords {
+    // The first word from j on that was visited, or was not, as wanted; or how many words there are.
+    pub(crate) fn first(self, map: &[u32], j: u32, wanted: bool) -> u32
+        requires { j ≤ self.count }
+        ensures { Sought map.now self.base self.count j wanted result }
+    {
+        for k in j..self.count {
+            if visited::contains(map, WordNumber(self.base + k)) == wanted {
+                return k;
+            }
         }
-        k += 1;
+        self.count
     }
-    words
-}
 
-// How many of the words were visited.
-pub(crate) fn count(map: &[u32], base: u32, words: u32) -> u32
-    requires { base + words < 2 ^ 32 }
-    ensures { result ≡ visited_in map.now base words }
-{
-    let mut n = 0;
-    let mut j = 0;
-    while j < words {
-        let first = visited_from(map, base, words, j);
-        if words <= first {
-            return n;
+    // How many of the words were visited.
+    #[tactic(auto, using(crate::proofs::Counting::none_counted))]
+    pub(crate) fn visited(self, map: &[u32]) -> u32
+        ensures { result ≡ visited_in map.now self.base self.count }
+    {
+        let mut n = 0;
+        for k in 0..self.count {
+            if visited::contains(map, WordNumber(self.base + k)) {
+                n += 1;
+            }
         }
-        let end = unvisited_from(map, base, words, first + 1);
-        n += end - first;
-        j = end;
+        n
     }
-    n
 }

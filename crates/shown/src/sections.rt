@@ -1,13 +1,21 @@
 // Each section, and its visited runs as address ranges.
-ghost use Rattle.std.specs.Prelude.{◌≡◌, true, ◌+◌, ◌<◌, ◌≤◌, ◌^◌};
+ghost use Rattle.std.specs.Prelude.{◌≡◌, true};
 ghost use Rattle.image.specs.Rules.{tables_sound};
 
-use crate::runs;
-use crate::say::{line, number, text, word};
+use crate::runs::CodeWords;
 use image::Section;
 use image::code::words_of;
 use image::table::{section, section_count};
 use std::io;
+use words::sum::wrapping_add;
+
+// A section, its index in the image, and its Code words.
+#[derive(Clone, Copy)]
+struct Part {
+    index: usize,
+    section: Section,
+    words: CodeWords,
+}
 
 // Every section in order.
 pub fn show(rt: &impl Print, im: &[u32], map: &[u32], lines: bool) -> io::Result<()>
@@ -15,94 +23,83 @@ pub fn show(rt: &impl Print, im: &[u32], map: &[u32], lines: bool) -> io::Result
 {
     let n = section_count(im);
     let mut base: usize = 0;
-    let mut i = 0;
-    while i < n {
+    for i in 0..n {
         let s = section(im, i);
-        let words = words_of(s);
-        show_section(rt, i as u64, s, map, base as u32, words as u32, lines)?;
-        base += words;
-        i += 1;
+        let count = words_of(s);
+        let words = CodeWords {
+            base: base as u32,
+            count: count as u32,
+        };
+        let part = Part {
+            index: i,
+            section: s,
+            words,
+        };
+        show_section(rt, part, map, lines)?;
+        base += count;
     }
     Ok(())
 }
 
-// A section whose Code words, so many, have the numbers from `base` on.
-fn show_section(
-    rt: &impl Print,
-    index: u64,
-    s: Section,
-    map: &[u32],
-    base: u32,
-    words: u32,
-    lines: bool,
-) -> io::Result<()>
-    requires { (base + words < 2 ^ 32) × (words < 2 ^ 30) }
-{
-    let seen = runs::count(map, base, words);
+fn show_section(rt: &impl Print, p: Part, map: &[u32], lines: bool) -> io::Result<()> {
+    let seen = p.words.visited(map);
     if lines {
-        show_record(rt, index, s, words, seen)?;
+        show_record(rt, p, seen)?;
     } else {
-        tell_section(rt, index, s, words, seen)?;
+        tell_section(rt, p, seen)?;
     }
-    show_runs(rt, index, s.address, map, base, words, lines)
+    show_runs(rt, p, map, lines)
 }
 
 // A section for a script.
-fn show_record(rt: &impl Print, index: u64, s: Section, words: u32, seen: u32) -> io::Result<()> {
-    number(rt, b"section ", index)?;
-    number(rt, b" ", s.kind as u64)?;
-    word(rt, b" ", s.address)?;
-    word(rt, b" ", words::sum::wrapping_add(s.address, s.size))?;
-    number(rt, b" ", words as u64)?;
-    number(rt, b" ", seen as u64)?;
-    line(rt, b"")
+fn show_record(rt: &impl Print, p: Part, seen: u32) -> io::Result<()> {
+    let s = p.section;
+    let end = wrapping_add(s.address, s.size);
+    println!(rt;
+        "section {} {} {:08x} {end:08x} {} {seen}",
+        p.index, s.kind, s.address, p.words.count
+    )
 }
 
 // A section for a person.
-fn tell_section(rt: &impl Print, index: u64, s: Section, words: u32, seen: u32) -> io::Result<()> {
-    number(rt, b"section ", index)?;
-    tell_kind(rt, s.kind)?;
-    word(rt, b"", s.address)?;
-    word(rt, b" to ", words::sum::wrapping_add(s.address, s.size))?;
+fn tell_section(rt: &impl Print, p: Part, seen: u32) -> io::Result<()> {
+    let s = p.section;
+    let end = wrapping_add(s.address, s.size);
+    print!(rt;
+        "section {}, {}, {:08x} to {end:08x}",
+        p.index,
+        kind_name(s.kind),
+        s.address
+    )?;
     if s.kind == 0 {
-        number(rt, b": ", seen as u64)?;
-        number(rt, b" of ", words as u64)?;
-        text(rt, b" words visited")?;
+        print!(rt; ": {seen} of {} words visited", p.words.count)?;
     }
-    line(rt, b"")
+    println!(rt; "")
 }
 
-fn tell_kind(rt: &impl Print, kind: u32) -> io::Result<()> {
+fn kind_name(kind: u32) -> &'static str {
     match kind {
-        0 => text(rt, b", Code, "),
-        1 => text(rt, b", Data, "),
-        2 => text(rt, b", ReadOnly, "),
-        _ => text(rt, b", Bss, "),
+        0 => "Code",
+        1 => "Data",
+        2 => "ReadOnly",
+        _ => "Bss",
     }
 }
 
 // The maximal runs of visited words of a section.
-fn show_runs(
-    rt: &impl Print,
-    index: u64,
-    address: u32,
-    map: &[u32],
-    base: u32,
-    words: u32,
-    lines: bool,
-) -> io::Result<()>
-    requires { (base + words < 2 ^ 32) × (words < 2 ^ 30) }
-{
+fn show_runs(rt: &impl Print, p: Part, map: &[u32], lines: bool) -> io::Result<()> {
+    let address = p.section.address;
     let mut j = 0;
-    while j < words {
-        let first = runs::visited_from(map, base, words, j);
-        if words <= first {
+    // A while: each turn passes a run, whose length no range says.
+    while j < p.words.count {
+        let first = p.words.first(map, j, true);
+        if p.words.count <= first {
             return Ok(());
         }
-        let end = runs::unvisited_from(map, base, words, first + 1);
-        let from = words::sum::wrapping_add(address, first * 4);
-        let upto = words::sum::wrapping_add(address, end * 4);
-        show_run(rt, index, from, upto, (end - first) as u64, lines)?;
+        let end = p.words.first(map, first + 1, false);
+        let from = wrapping_add(address, first * 4);
+        let upto = wrapping_add(address, end * 4);
+        show_run(rt, p.index, from, upto, end - first, lines)?;
         j = end;
     }
     Ok(())
@@ -110,21 +107,14 @@ fn show_runs(
 
 fn show_run(
     rt: &impl Print,
-    index: u64,
+    index: usize,
     from: u32,
     upto: u32,
-    n: u64,
+    n: u32,
     lines: bool,
 ) -> io::Result<()> {
     if lines {
-        number(rt, b"run ", index)?;
-        word(rt, b" ", from)?;
-        word(rt, b" ", upto)?;
-        number(rt, b" ", n)?;
-        return line(rt, b"");
+        return println!(rt; "run {index} {from:08x} {upto:08x} {n}");
     }
-    word(rt, b"  ", from)?;
-    word(rt, b" to ", upto)?;
-    number(rt, b", ", n)?;
-    line(rt, b" words")
+    println!(rt; "  {from:08x} to {upto:08x}, {n} words")
 }

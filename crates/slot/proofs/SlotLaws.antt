@@ -1,5 +1,6 @@
 -- What is written is read back, and the test of a slot says yes to exactly the words that some place and state write.
 -- Assumes of a state what its type says (`Fits`).
+use Rattle.std.specs.Prelude.{Option, Some, None}
 use mathlib.Core.Bool.{Bool, true, false}
 use mathlib.Core.List.{List, [], ◌∷◌, ◌++◌}
 use mathlib.Core.Path.{◌≡◌, refl, ap, ◌∙◌}
@@ -7,8 +8,6 @@ use Prim.Native.Nat.{ℕ, ◌+◌, ◌*◌, ◌/◌, ◌%◌, ◌≤◌, ◌<◌
 use native.Mathlib.Omega.{arith}
 use lib.Dec.{eqb}
 use lib.ListN.{length, get_or, length-append}
-use Rattle.places.specs.declared.MaybeAddress.TheVariants.{At, Nowhere}
-use Rattle.places.specs.declared.MaybeAddress.{MaybeAddress}
 use Rattle.places.specs.declared.RelocationTarget.TheVariants as target
 use Rattle.places.specs.declared.SectionAddress.{SectionAddress}
 use Rattle.vm.specs.Registers.{blank, no_cr}
@@ -17,7 +16,6 @@ use Rattle.vm.specs.declared.Gpr.{Gpr}
 use Rattle.vm.specs.declared.GprValue.TheVariants.{Unknown, Constant, Address, ComparisonResult, Range, LoadIndexed}
 use Rattle.vm.specs.declared.GprValue.{GprValue}
 use Rattle.vm.specs.declared.Held.{Held}
-use Rattle.vm.specs.declared.TableSize.TheVariants.{Guessed, Bytes}
 use Rattle.vm.specs.declared.VM.{VM}
 use Rattle.words.specs.Choice.{pick}
 use Rattle.slot.specs.Fits.{FitsCr, Fits}
@@ -50,10 +48,10 @@ value_back (Address target.External) h = refl
 value_back (Address (target.Address p)) h = refl
 value_back (ComparisonResult k) h = let e : k % 256 ≡ k = omega arith in rw e
 value_back (Range lo hi st) h = refl
-value_back (LoadIndexed target.External Guessed) h = refl
-value_back (LoadIndexed (target.Address p) Guessed) h = refl
-value_back (LoadIndexed target.External (Bytes n)) h = refl
-value_back (LoadIndexed (target.Address p) (Bytes n)) h = refl
+value_back (LoadIndexed target.External None) h = refl
+value_back (LoadIndexed (target.Address p) None) h = refl
+value_back (LoadIndexed target.External (Some n)) h = refl
+value_back (LoadIndexed (target.Address p) (Some n)) h = refl
 
 tag_small : (v : GprValue) → (numbers_of v).tag < 16
 tag_small Unknown = omega arith
@@ -62,18 +60,18 @@ tag_small (Address target.External) = omega arith
 tag_small (Address (target.Address p)) = omega arith
 tag_small (ComparisonResult k) = omega arith
 tag_small (Range lo hi st) = omega arith
-tag_small (LoadIndexed target.External Guessed) = omega arith
-tag_small (LoadIndexed (target.Address p) Guessed) = omega arith
-tag_small (LoadIndexed target.External (Bytes n)) = omega arith
-tag_small (LoadIndexed (target.Address p) (Bytes n)) = omega arith
+tag_small (LoadIndexed target.External None) = omega arith
+tag_small (LoadIndexed (target.Address p) None) = omega arith
+tag_small (LoadIndexed target.External (Some n)) = omega arith
+tag_small (LoadIndexed (target.Address p) (Some n)) = omega arith
 
-maybe_back : (m : MaybeAddress) → maybe_of (address_numbers m).known (address_numbers m).section (address_numbers m).address ≡ m
-maybe_back Nowhere = refl
-maybe_back (At p) = refl
+maybe_back : (m : Option SectionAddress) → maybe_of (address_numbers m).known (address_numbers m).section (address_numbers m).address ≡ m
+maybe_back None = refl
+maybe_back (Some p) = refl
 
-known_small : (m : MaybeAddress) → (address_numbers m).known ≤ 1
-known_small Nowhere = omega arith
-known_small (At p) = omega arith
+known_small : (m : Option SectionAddress) → (address_numbers m).known ≤ 1
+known_small None = omega arith
+known_small (Some p) = omega arith
 
 bit_back : (b : Bool) → eqb (bit_of b) 1 ≡ b
 bit_back true = refl
@@ -182,7 +180,7 @@ unfolding value_of
 mark_read t a b c = go (eqb t 1) (eqb t 2) (eqb t 3) (eqb t 4) (eqb t 5) (eqb t 6) (eqb t 7) (eqb t 8) (eqb t 9)
   where
     go : (b1 b2 b3 b4 b5 b6 b7 b8 b9 : Bool)
-        → mark_of (pick b1 (Constant a) (pick b2 (Address target.External) (pick b3 (Address (address_in a b)) (pick b4 (ComparisonResult (a % 256)) (pick b5 (Range a b c) (pick b6 (LoadIndexed target.External Guessed) (pick b7 (LoadIndexed (address_in a b) Guessed) (pick b8 (LoadIndexed target.External (Bytes c)) (pick b9 (LoadIndexed (address_in a b) (Bytes c)) Unknown))))))))) < 256
+        → mark_of (pick b1 (Constant a) (pick b2 (Address target.External) (pick b3 (Address (address_in a b)) (pick b4 (ComparisonResult (a % 256)) (pick b5 (Range a b c) (pick b6 (LoadIndexed target.External None) (pick b7 (LoadIndexed (address_in a b) None) (pick b8 (LoadIndexed target.External (Some c)) (pick b9 (LoadIndexed (address_in a b) (Some c)) Unknown))))))))) < 256
     go true b2 b3 b4 b5 b6 b7 b8 b9 = omega arith
     go false true b3 b4 b5 b6 b7 b8 b9 = omega arith
     go false false true b4 b5 b6 b7 b8 b9 = omega arith
@@ -230,13 +228,13 @@ unfolding state_at
 state_read ws at s lr ctr a b c d = rw (a, b, c, d)
 
 -- a record of which nothing is known
-pub blank_of : (g : Gpr) → g.value ≡ Unknown → g.hi_addr ≡ Nowhere → g.lo_addr ≡ Nowhere → g ≡ blank
+pub blank_of : (g : Gpr) → g.value ≡ Unknown → g.hi_addr ≡ None → g.lo_addr ≡ None → g ≡ blank
 blank_of g a b c =
     ap (λ (v : GprValue). mk v g.hi_addr g.lo_addr) a
-    ∙ ap (λ (m : MaybeAddress). mk Unknown m g.lo_addr) b
-    ∙ ap (λ (m : MaybeAddress). mk Unknown Nowhere m) c
+    ∙ ap (λ (m : Option SectionAddress). mk Unknown m g.lo_addr) b
+    ∙ ap (λ (m : Option SectionAddress). mk Unknown None m) c
   where
-    mk : GprValue → MaybeAddress → MaybeAddress → Gpr
+    mk : GprValue → Option SectionAddress → Option SectionAddress → Gpr
     mk v h l = record { value = v; hi_addr = h; lo_addr = l }
 
 pub unset_of : (r : Cr) → r.left ≡ Unknown → r.right ≡ Unknown → r.signed ≡ false → r ≡ no_cr

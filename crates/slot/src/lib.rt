@@ -17,7 +17,7 @@ use vm::VM;
 // How many words a slot has.
 pub const SLOT_WORDS: usize = 330;
 
-// A value as a tag below 16 and three numbers.
+// A value as a tag below 16 and three numbers. Numbers and no enum: they are what stands in a slot's words.
 #[derive(Clone, Copy)]
 pub struct Numbers {
     pub tag: u32,
@@ -26,7 +26,7 @@ pub struct Numbers {
     pub c: u32,
 }
 
-// A place that may be missing: 1 and its numbers, or zeros.
+// A place that may be missing: 1 and its numbers, or zeros. Numbers and no Option: they are what stands in a slot's words.
 #[derive(Clone, Copy)]
 pub struct AddressNumbers {
     pub known: u32,
@@ -43,25 +43,19 @@ fn state_at(words: &[u32], at: usize) -> VM
     let mut s = vm::state::new();
     let lr = held_at(words, at + 320);
     let ctr = held_at(words, at + 324);
-    let mut i: usize = 0;
-    while i < 32 {
+    for i in 0..32 {
         let from = at + i * 8;
-        let k = i;
-        i = i + 1;
         if words[from] == 0 {
             continue;
         }
-        s.gpr[k] = register_at(words, from);
+        s.gpr[i] = register_at(words, from);
     }
-    let mut j: usize = 0;
-    while j < 8 {
+    for j in 0..8 {
         let from = at + 256 + j * 8;
-        let k = j;
-        j = j + 1;
         if is_unset_at(words, from) {
             continue;
         }
-        s.cr[k] = compare_at(words, from);
+        s.cr[j] = compare_at(words, from);
     }
     s.lr = lr;
     s.ctr = ctr;
@@ -75,15 +69,11 @@ pub fn put_state(words: &mut [u32], at: usize, s: VM)
 {
     let lr = s.lr;
     let ctr = s.ctr;
-    let mut i: usize = 0;
-    while i < 32 {
+    for i in 0..32 {
         put_register(words, at + i * 8, s.gpr[i]);
-        i = i + 1;
     }
-    let mut j: usize = 0;
-    while j < 8 {
+    for j in 0..8 {
         put_compare(words, at + 256 + j * 8, s.cr[j]);
-        j = j + 1;
     }
     put_ends(words, at + 320, lr, ctr);
 }
@@ -122,14 +112,7 @@ fn same(words: &[u32], at: usize, l: &[u32]) -> bool
     requires { at + length l.now ≤ length words.now }
     ensures { result ≡ matches words.now at l.now }
 {
-    let mut i: usize = 0;
-    while i < l.len() {
-        if words[at + i] != l[i] {
-            return false;
-        }
-        i = i + 1;
-    }
-    true
+    &words[at..at + l.len()] == l
 }
 
 // Whether the words of a slot are ones that `put_slot` writes for some place and state.

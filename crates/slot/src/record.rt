@@ -8,7 +8,6 @@ ghost use Rattle.slot.specs.Layout.{register_words, compare_words, value_words, 
 ghost use Rattle.slot.specs.Fits.{FitsCr};
 
 use crate::value::{address_numbers, bit_of, maybe_of, numbers_of, value_of};
-use places::MaybeAddress;
 use vm::register::set_direct;
 use vm::{Cr, Gpr, GprValue, Held};
 
@@ -23,45 +22,19 @@ fn store4(words: &mut [u32], at: usize, w: u32, x: u32, y: u32, z: u32)
     words[at + 3] = z;
 }
 
-// Nothing is known of the register: the common case. The places first, since that order compiles to fewer instructions.
+// Nothing is known of the register: the common case. Not a derived ==, which would test the value first: the places first
+// compile to fewer instructions.
 fn is_blank(g: Gpr) -> bool
     ensures { result ≡ true → g ≡ blank }
 {
-    let hi = g.hi_addr;
-    match hi {
-        MaybeAddress::Nowhere => {
-            let lo = g.lo_addr;
-            match lo {
-                MaybeAddress::Nowhere => {
-                    let value = g.value;
-                    match value {
-                        GprValue::Unknown => true,
-                        _ => false,
-                    }
-                }
-                MaybeAddress::At(_) => false,
-            }
-        }
-        MaybeAddress::At(_) => false,
-    }
+    matches!(g.hi_addr, None) && matches!(g.lo_addr, None) && matches!(g.value, GprValue::Unknown)
 }
 
 // Nothing was compared.
 fn is_unset(c: Cr) -> bool
     ensures { result ≡ true → c ≡ no_cr }
 {
-    let left = c.left;
-    let right = c.right;
-    if c.signed {
-        return false;
-    }
-    match left {
-        GprValue::Unknown => match right {
-            GprValue::Unknown => true,
-            _ => false,
-        },
-        _ => false,
-    }
+    !c.signed && matches!(c.left, GprValue::Unknown) && matches!(c.right, GprValue::Unknown)
 }
 
 // The words of a record of which nothing is known.
@@ -105,6 +78,7 @@ fn put_known(words: &mut [u32], at: usize, g: Gpr)
     store4(words, at + 4, h.section, h.address, l.section, l.address);
 }
 
+#[tactic(auto, unfolding(crate::specs::Values::value_of))]
 pub fn register_at(words: &[u32], at: usize) -> Gpr
     requires { at + 8 ≤ length words.now }
     ensures { result ≡ register_at words.now at }
@@ -114,12 +88,12 @@ pub fn register_at(words: &[u32], at: usize) -> Gpr
         return set_direct(GprValue::Unknown);
     }
     let value = value_of(head % 16, words[at + 1], words[at + 2], words[at + 3]);
-    let hi = maybe_of(head / 16 % 2, words[at + 4], words[at + 5]);
-    let lo = maybe_of(head / 32 % 2, words[at + 6], words[at + 7]);
+    let hi_addr = maybe_of(head / 16 % 2, words[at + 4], words[at + 5]);
+    let lo_addr = maybe_of(head / 32 % 2, words[at + 6], words[at + 7]);
     Gpr {
-        value: value,
-        hi_addr: hi,
-        lo_addr: lo,
+        value,
+        hi_addr,
+        lo_addr,
     }
 }
 
@@ -156,6 +130,7 @@ pub fn is_unset_at(words: &[u32], at: usize) -> bool
     (head == 0) & (right == 0)
 }
 
+#[tactic(auto, unfolding(crate::specs::Values::value_of))]
 pub fn compare_at(words: &[u32], at: usize) -> Cr
     requires { at + 8 ≤ length words.now }
     ensures { result ≡ compare_at words.now at }
@@ -173,8 +148,8 @@ pub fn compare_at(words: &[u32], at: usize) -> Cr
     let left = value_of(head % 16, words[at + 1], words[at + 2], words[at + 3]);
     let right = value_of(words[at + 4], words[at + 5], words[at + 6], words[at + 7]);
     Cr {
-        left: left,
-        right: right,
+        left,
+        right,
         signed: head / 16 % 2 == 1,
     }
 }
@@ -206,5 +181,5 @@ pub fn held_at(words: &[u32], at: usize) -> Held
     ensures { result ≡ held_at words.now at }
 {
     let value = value_of(words[at], words[at + 1], words[at + 2], words[at + 3]);
-    Held { value: value }
+    Held { value }
 }

@@ -5,15 +5,8 @@ ghost use Rattle.slot.specs.Values.{target_numbers, numbers_of, value_of, addres
 ghost use Rattle.slot.specs.Fits.{Numbered};
 
 use crate::{AddressNumbers, Numbers};
-use places::{MaybeAddress, RelocationTarget, SectionAddress};
-use vm::{GprValue, TableSize};
-
-// A byte is a word, and the caller learns that it is below 256.
-fn wide(k: u8) -> u32
-    ensures { (result ≡ k) × (k < 256) }
-{
-    k as u32
-}
+use places::{RelocationTarget, SectionAddress};
+use vm::GprValue;
 
 fn target_numbers(t: RelocationTarget, tag: u32, n: u32) -> Numbers
     requires { tag < 15 }
@@ -21,7 +14,7 @@ fn target_numbers(t: RelocationTarget, tag: u32, n: u32) -> Numbers
 {
     match t {
         RelocationTarget::External => Numbers {
-            tag: tag,
+            tag,
             a: 0,
             b: 0,
             c: n,
@@ -55,7 +48,7 @@ pub fn numbers_of(v: GprValue) -> Numbers
         GprValue::Address(t) => target_numbers(t, 2, 0),
         GprValue::ComparisonResult(k) => Numbers {
             tag: 4,
-            a: wide(k),
+            a: u32::from(k),
             b: 0,
             c: 0,
         },
@@ -69,13 +62,14 @@ pub fn numbers_of(v: GprValue) -> Numbers
             address,
             max_offset,
         } => match max_offset {
-            TableSize::Guessed => target_numbers(address, 6, 0),
-            TableSize::Bytes(n) => target_numbers(address, 8, n),
+            None => target_numbers(address, 6, 0),
+            Some(n) => target_numbers(address, 8, n),
         },
     }
 }
 
 // The value of a tag and numbers.
+#[tactic(auto, unfolding(crate::specs::Values::value_of))]
 pub fn value_of(tag: u32, a: u32, b: u32, c: u32) -> GprValue
     ensures { result ≡ value_of tag a b c }
 {
@@ -95,35 +89,35 @@ pub fn value_of(tag: u32, a: u32, b: u32, c: u32) -> GprValue
         },
         6 => GprValue::LoadIndexed {
             address: RelocationTarget::External,
-            max_offset: TableSize::Guessed,
+            max_offset: None,
         },
         7 => GprValue::LoadIndexed {
             address: RelocationTarget::Address(p),
-            max_offset: TableSize::Guessed,
+            max_offset: None,
         },
         8 => GprValue::LoadIndexed {
             address: RelocationTarget::External,
-            max_offset: TableSize::Bytes(c),
+            max_offset: Some(c),
         },
         9 => GprValue::LoadIndexed {
             address: RelocationTarget::Address(p),
-            max_offset: TableSize::Bytes(c),
+            max_offset: Some(c),
         },
         _ => GprValue::Unknown,
     }
 }
 
 // The flag and the numbers of a place that may be missing.
-pub fn address_numbers(m: MaybeAddress) -> AddressNumbers
+pub fn address_numbers(m: Option<SectionAddress>) -> AddressNumbers
     ensures { (result ≡ address_numbers m) × (result.known ≤ 1) }
 {
     match m {
-        MaybeAddress::Nowhere => AddressNumbers {
+        None => AddressNumbers {
             known: 0,
             section: 0,
             address: 0,
         },
-        MaybeAddress::At(p) => AddressNumbers {
+        Some(p) => AddressNumbers {
             known: 1,
             section: p.section,
             address: p.address,
@@ -132,16 +126,13 @@ pub fn address_numbers(m: MaybeAddress) -> AddressNumbers
 }
 
 // The place of a flag and numbers.
-pub fn maybe_of(known: u32, section: u32, address: u32) -> MaybeAddress
+pub fn maybe_of(known: u32, section: u32, address: u32) -> Option<SectionAddress>
     ensures { result ≡ maybe_of known section address }
 {
     if known == 1 {
-        MaybeAddress::At(SectionAddress {
-            section: section,
-            address: address,
-        })
+        Some(SectionAddress { section, address })
     } else {
-        MaybeAddress::Nowhere
+        None
     }
 }
 
@@ -149,5 +140,5 @@ pub fn maybe_of(known: u32, section: u32, address: u32) -> MaybeAddress
 pub fn bit_of(b: bool) -> u32
     ensures { (result ≡ bit_of b) × (result ≤ 1) }
 {
-    if b { 1 } else { 0 }
+    u32::from(b)
 }

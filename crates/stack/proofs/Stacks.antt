@@ -14,11 +14,11 @@ use Rattle.places.specs.declared.SectionAddress.{SectionAddress}
 use Rattle.slot.proofs.PutLaws.{listed_one}
 use Rattle.slot.specs.Put.{listed}
 use Rattle.vm.specs.declared.VM.{VM}
+use Rattle.std.specs.Prelude.{Option, Some, None, is_some, unwrap_or}
 use Rattle.words.specs.Choice.{pick}
 use Rattle.stack.specs.Push.{appended, pushed_words, Pushes}
 use Rattle.stack.specs.Sort.{insert_by, sort_by}
 use Rattle.stack.specs.Stack.{Entry, room, held_at, entries, entry_key, place_key, high_of, Stack}
-use Rattle.stack.specs.declared.Pushed.{Pushed}
 use Rattle.stack.proofs.AppendLaws.{high_word, append_stack, append_entries}
 use Rattle.stack.proofs.ArrangeLaws.{sorted_stack, sorted_entries}
 use Rattle.stack.proofs.SortLaws.{Sorted, sort_kept, insert_all_snoc}
@@ -42,33 +42,33 @@ key_order p q a b =
 
 module _ (ws : List ℕ) (n : ℕ) (p : SectionAddress) (s : VM) (st : Stack ws n) where
   -- a push is refused exactly while all slots are held, and leaves every word and the count
-  pub push_full : (sorted : Bool) (r : Pushed) (vs : List ℕ) → Pushes ws n p s sorted r vs → room (length ws) ≤ n → (r.taken ≡ false) × (r.count ≡ n) × (vs ≡ ws)
+  pub push_full : (sorted : Bool) (r : Option ℕ) (vs : List ℕ) → Pushes ws n p s sorted r vs → room (length ws) ≤ n → (is_some r ≡ false) × (unwrap_or r n ≡ n) × (vs ≡ ws)
   push_full sorted r vs d h =
-      let no : r.taken ≡ false = d.taken ∙ le-ltb n (room (length ws)) h in
+      let no : is_some r ≡ false = d.taken ∙ le-ltb n (room (length ws)) h in
       (no, d.count ∙ ap (λ (t : Bool). pick t (n + 1) n) no, d.words ∙ ap (λ (t : Bool). pick t (pushed_words ws n p s sorted) ws) no)
 
-  module _ (sorted : Bool) (r : Pushed) (vs : List ℕ) (d : Pushes ws n p s sorted r vs) (free : n < room (length ws)) where
+  module _ (sorted : Bool) (r : Option ℕ) (vs : List ℕ) (d : Pushes ws n p s sorted r vs) (free : n < room (length ws)) where
     -- otherwise it is taken
-    pub push_taken : r.taken ≡ true
+    pub push_taken : is_some r ≡ true
     push_taken = d.taken ∙ lt-ltb n (room (length ws)) free
 
-    pub push_count : r.count ≡ n + 1
+    pub push_count : unwrap_or r n ≡ n + 1
     push_count = d.count ∙ ap (λ (t : Bool). pick t (n + 1) n) push_taken
 
     pub push_words : vs ≡ pushed_words ws n p s sorted
     push_words = d.words ∙ ap (λ (t : Bool). pick t (pushed_words ws n p s sorted) ws) push_taken
 
   -- a plain push puts the state on top
-  pub plain_push : (r : Pushed) (vs : List ℕ) → Pushes ws n p s false r vs → n < room (length ws)
-      → (entries vs r.count ≡ entries ws n ++ (entry p s ∷ [])) × Stack vs r.count
+  pub plain_push : (r : Option ℕ) (vs : List ℕ) → Pushes ws n p s false r vs → n < room (length ws)
+      → (entries vs (unwrap_or r n) ≡ entries ws n ++ (entry p s ∷ [])) × Stack vs (unwrap_or r n)
   plain_push r vs d free =
       let f = d.fits (push_taken false r vs d free) in
       rw (push_count false r vs d free, push_words false r vs d free)
       (append_entries ws n st free p s f, append_stack ws n st free p s f)
 
   -- a sorted push sorts the whole, stably
-  pub sorted_push : (r : Pushed) (vs : List ℕ) → Pushes ws n p s true r vs → n < room (length ws)
-      → (entries vs r.count ≡ sort_by entry_key (entries ws n ++ (entry p s ∷ []))) × Stack vs r.count
+  pub sorted_push : (r : Option ℕ) (vs : List ℕ) → Pushes ws n p s true r vs → n < room (length ws)
+      → (entries vs (unwrap_or r n) ≡ sort_by entry_key (entries ws n ++ (entry p s ∷ []))) × Stack vs (unwrap_or r n)
   sorted_push r vs d free =
       let f = d.fits (push_taken true r vs d free) in
       let ws' : List ℕ = appended ws n p s in
@@ -76,12 +76,12 @@ module _ (ws : List ℕ) (n : ℕ) (p : SectionAddress) (s : VM) (st : Stack ws 
       rw (push_count true r vs d free, push_words true r vs d free)
       (sorted_entries ws' (n + 1) st' (omega arith) ∙ ap (sort_by entry_key) (append_entries ws n st free p s f), sorted_stack ws' (n + 1) st' (omega arith))
 
-  taken_stack : (sorted : Bool) (r : Pushed) (vs : List ℕ) → Pushes ws n p s sorted r vs → n < room (length ws) → Stack vs r.count
+  taken_stack : (sorted : Bool) (r : Option ℕ) (vs : List ℕ) → Pushes ws n p s sorted r vs → n < room (length ws) → Stack vs (unwrap_or r n)
   taken_stack true r vs d free = (sorted_push r vs d free).1
   taken_stack false r vs d free = (plain_push r vs d free).1
 
   -- a push leaves a stack, taken or not
-  pub push_stack : (sorted : Bool) (r : Pushed) (vs : List ℕ) → Pushes ws n p s sorted r vs → Stack vs r.count
+  pub push_stack : (sorted : Bool) (r : Option ℕ) (vs : List ℕ) → Pushes ws n p s sorted r vs → Stack vs (unwrap_or r n)
   push_stack sorted r vs d =
       elim (dec_lt n (room (length ws))) [
         | yes a ↦ taken_stack sorted r vs d a
@@ -125,12 +125,15 @@ unfolding listed
 no_entries ws = refl
 
 -- the contract of a push allows one answer alone
-pub push_unique : (ws : List ℕ) (n : ℕ) (p : SectionAddress) (s : VM) (sorted : Bool) (r q : Pushed) (vs us : List ℕ)
+pub push_unique : (ws : List ℕ) (n : ℕ) (p : SectionAddress) (s : VM) (sorted : Bool) (r q : Option ℕ) (vs us : List ℕ)
     → Pushes ws n p s sorted r vs → Pushes ws n p s sorted q us → (r ≡ q) × (vs ≡ us)
 push_unique ws n p s sorted r q vs us d f =
-    let t : r.taken ≡ q.taken = d.taken ∙ sym f.taken in
-    let c : r.count ≡ q.count = d.count ∙ ap (λ (b : Bool). pick b (n + 1) n) t ∙ sym f.count in
-    (ap (λ (b : Bool). mk b r.count) t ∙ ap (mk q.taken) c, d.words ∙ ap (λ (b : Bool). pick b (pushed_words ws n p s sorted) ws) t ∙ sym f.words)
+    let t : is_some r ≡ is_some q = d.taken ∙ sym f.taken in
+    let c : unwrap_or r n ≡ unwrap_or q n = d.count ∙ ap (λ (b : Bool). pick b (n + 1) n) t ∙ sym f.count in
+    (same_answer n r q t c, d.words ∙ ap (λ (b : Bool). pick b (pushed_words ws n p s sorted) ws) t ∙ sym f.words)
   where
-    mk : Bool → ℕ → Pushed
-    mk b k = record { taken = b; count = k }
+    same_answer : (n : ℕ) (r q : Option ℕ) → is_some r ≡ is_some q → unwrap_or r n ≡ unwrap_or q n → r ≡ q
+    same_answer n None None t c = refl
+    same_answer n (Some a) (Some b) t c = ap Some c
+    same_answer n None (Some b) t c = cc
+    same_answer n (Some a) None t c = cc

@@ -11,15 +11,7 @@ fn is_fresh(words: &[u32], i: usize) -> bool
     requires { i + 2 < length words.now }
     ensures { result ≡ is_fresh words.now i }
 {
-    let x = words[2 + i];
-    let mut j: usize = 0;
-    while j < i {
-        if words[2 + j] == x {
-            return false;
-        }
-        j = j + 1;
-    }
-    true
+    !words[2..2 + i].contains(&words[2 + i])
 }
 
 // Whether the first h numbers of the table are those below h, each once.
@@ -27,15 +19,8 @@ fn is_named(words: &[u32], h: u32) -> bool
     requires { h + 2 ≤ length words.now }
     ensures { result ≡ is_named words.now h }
 {
-    let n = h as usize;
-    let mut i: usize = 0;
-    while i < n {
-        if h <= words[2 + i] {
-            return false;
-        }
-        if is_fresh(words, i) {
-            i = i + 1;
-        } else {
+    for i in 0..h as usize {
+        if h <= words[2 + i] || !is_fresh(words, i) {
             return false;
         }
     }
@@ -47,12 +32,10 @@ fn is_ordered(words: &[u32], n: usize) -> bool
     requires { (n ≤ room (length words.now)) × ((i : ℕ) → i < n → order_at words.now i < room (length words.now)) }
     ensures { result ≡ is_ordered words.now n }
 {
-    let mut i: usize = 0;
-    while i + 1 < n {
-        if key_at(words, i + 1) < key_at(words, i) {
+    for i in 1..n {
+        if key_at(words, i) < key_at(words, i - 1) {
             return false;
         }
-        i = i + 1;
     }
     true
 }
@@ -62,11 +45,8 @@ fn is_held(words: &[u32], n: usize) -> bool
     requires { (n ≤ room (length words.now)) × ((i : ℕ) → i < n → order_at words.now i < room (length words.now)) }
     ensures { result ≡ is_held words.now n }
 {
-    let mut i: usize = 0;
-    while i < n {
-        if slot::is_slot(words, slot_at(words, words[2 + i])) {
-            i = i + 1;
-        } else {
+    for i in 0..n {
+        if !slot::is_slot(words, slot_at(words, words[2 + i])) {
             return false;
         }
     }
@@ -94,13 +74,8 @@ pub fn is_stack(words: &[u32], count: usize) -> bool
     if high < words[1] {
         return false;
     }
-    if is_named(words, high) {
-        if is_ordered(words, sorted_of(words, count)) {
-            is_held(words, count)
-        } else {
-            false
-        }
-    } else {
-        false
+    if !is_named(words, high) {
+        return false;
     }
+    is_ordered(words, sorted_of(words, count)) && is_held(words, count)
 }

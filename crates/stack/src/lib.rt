@@ -1,4 +1,4 @@
-// A stack of waiting states in lent words; the caller keeps the count of held states and hands it in.
+// A stack of waiting states in lent words; the caller keeps the count of held states and hands it in, as C does: no struct holds both.
 // Words and count are a stack (`is_stack` tells); with count 0 the words may be anything. Slots stay where they are, a table orders them.
 #![tactic(auto)]
 
@@ -18,13 +18,6 @@ use clones::{Made, copy, put_made};
 use order::{room_of, slot_at, sort};
 use places::SectionAddress;
 use vm::VM;
-
-// Whether a push was taken, and the count after it.
-#[derive(Clone, Copy)]
-pub struct Pushed {
-    pub taken: bool,
-    pub count: usize,
-}
 
 // Slots in use.
 fn high_of(words: &[u32], count: usize) -> u32
@@ -73,7 +66,7 @@ fn enter(words: &mut [u32], count: usize, p: SectionAddress, cells: &[u32], made
 }
 
 // One state more, what a way makes of the one in the cells: on top, or, sorted, with the whole stack brought in order of place,
-// stably. While all slots are held it is not taken, and nothing is touched.
+// stably. Says the count after it. While all slots are held it is not taken, and nothing is touched: None.
 pub fn push(
     words: &mut [u32],
     count: usize,
@@ -81,32 +74,28 @@ pub fn push(
     cells: &[u32],
     made: Made,
     sorted: bool,
-) -> Pushed
+) -> Option<usize>
     requires { (Stack words.old count) × Cells cells.now (state_of cells.now) }
     ensures { Pushes words.old count p (made_of made (state_of cells.now)) sorted result words.new }
 {
     if room_of(words.len()) <= count {
-        return Pushed {
-            taken: false,
-            count: count,
-        };
+        return None;
     }
     enter(words, count, p, cells, made);
     if sorted {
         sort(words, count + 1);
-        return Pushed {
-            taken: true,
-            count: count + 1,
-        };
     }
-    Pushed {
-        taken: true,
-        count: count + 1,
-    }
+    Some(count + 1)
 }
 
 // The same with a state that is handed in by value: it is laid out first.
-pub fn push_state(words: &mut [u32], count: usize, p: SectionAddress, s: VM, sorted: bool) -> Pushed
+pub fn push_state(
+    words: &mut [u32],
+    count: usize,
+    p: SectionAddress,
+    s: VM,
+    sorted: bool,
+) -> Option<usize>
     requires { Stack words.old count }
     ensures { Pushes words.old count p s sorted result words.new }
 {

@@ -10,7 +10,7 @@ ghost use Rattle.stack.specs.Stack.{Stack};
 
 use cells::STATE_WORDS;
 use clones::Made;
-use places::{MaybeAddress, SectionAddress};
+use places::SectionAddress;
 use std::io;
 use std::io::Read;
 use vm::{Cr, Gpr, GprValue, VM};
@@ -32,11 +32,11 @@ fn start(x: u32) -> VM {
             max: x,
             step: 4,
         },
-        hi_addr: MaybeAddress::At(SectionAddress {
+        hi_addr: Some(SectionAddress {
             section: 1,
             address: x,
         }),
-        lo_addr: MaybeAddress::Nowhere,
+        lo_addr: None,
     };
     s.gpr[13] = vm::register::set_direct(GprValue::ComparisonResult(3));
     s.cr[3] = Cr {
@@ -64,15 +64,12 @@ fn fill(words: &mut [u32], down: bool, cells: &[u32]) -> usize
     ensures { Stack words.new result }
 {
     let mut n: usize = 0;
-    let mut i: usize = 0;
-    while i < 3000 {
+    for i in 0..3000 {
         let p = SectionAddress {
             section: 3,
             address: address(i, down),
         };
-        let r = stack::push(words, n, p, cells, Made::Same, true);
-        n = r.count;
-        i = i + 1;
+        n = stack::push(words, n, p, cells, Made::Same, true).unwrap_or(n);
     }
     n
 }
@@ -82,15 +79,12 @@ fn fill_states(words: &mut [u32], down: bool, s: VM) -> usize
     ensures { Stack words.new result }
 {
     let mut n: usize = 0;
-    let mut i: usize = 0;
-    while i < 3000 {
+    for i in 0..3000 {
         let p = SectionAddress {
             section: 3,
             address: address(i, down),
         };
-        let r = stack::push_state(words, n, p, s, true);
-        n = r.count;
-        i = i + 1;
+        n = stack::push_state(words, n, p, s, true).unwrap_or(n);
     }
     n
 }
@@ -101,16 +95,13 @@ fn churn(words: &mut [u32], n: usize, cells: &mut [u32]) -> usize
     ensures { Stack words.new result }
 {
     let mut m = n;
-    let mut i: usize = 0;
-    while i < 3000 {
+    for _ in 0..3000 {
         if m == 0 {
             return m;
         }
         let p = stack::top_place(words, m);
         stack::top_cells(words, m, cells);
-        let r = stack::push(words, m - 1, p, cells, Made::Same, true);
-        m = r.count;
-        i = i + 1;
+        m = stack::push(words, m - 1, p, cells, Made::Same, true).unwrap_or(m - 1);
     }
     m
 }
@@ -121,29 +112,25 @@ fn churn_states(words: &mut [u32], n: usize) -> usize
     ensures { Stack words.new result }
 {
     let mut m = n;
-    let mut i: usize = 0;
-    while i < 3000 {
+    for _ in 0..3000 {
         if m == 0 {
             return m;
         }
         let p = stack::top_place(words, m);
         let s = stack::top_state(words, m);
-        let r = stack::push_state(words, m - 1, p, s, true);
-        m = r.count;
-        i = i + 1;
+        m = stack::push_state(words, m - 1, p, s, true).unwrap_or(m - 1);
     }
     m
 }
 
+// The places of all states, each popped in turn.
 fn drain(words: &[u32], n: usize) -> u32
     requires { Stack words.now n }
 {
-    let mut m = n;
     let mut sum: u32 = 0;
-    while 0 < m {
-        let p = stack::top_place(words, m);
-        sum = std::num::wrapping_add_u32(sum, p.address);
-        m = m - 1;
+    for i in 0..n {
+        let p = stack::top_place(words, n - i);
+        sum = sum.wrapping_add(p.address);
     }
     sum
 }
@@ -152,7 +139,7 @@ fn run(words: &mut [u32], mode: u8) -> u32 {
     if mode == b'a' {
         return 1;
     }
-    let s = start(mode as u32);
+    let s = start(u32::from(mode));
     if mode == b'g' {
         fill_states(words, false, s);
         return 5;

@@ -1,5 +1,6 @@
 -- What the layers above use of a step: whole states stay whole, and the paper's number of each answer.
 -- Assumes nothing.
+use Rattle.std.specs.Prelude.{Result, Ok, Err, ⊤, Option, Some, None}
 use mathlib.Core.Path.{◌≡◌, refl, ap, ◌∙◌}
 use mathlib.Core.Bool.{Bool, true, false}
 use mathlib.Core.List.{List, [], ◌∷◌}
@@ -8,12 +9,8 @@ use lib.ListN.{length}
 use Rattle.words.specs.Choice.{pick}
 use Rattle.words.proofs.Unique.{allowed_once}
 use Rattle.places.specs.declared.SectionAddress.{SectionAddress}
-use Rattle.places.specs.declared.MaybeTarget.{MaybeTarget}
-use Rattle.places.specs.declared.MaybeTarget.TheVariants.{Missing, Known}
 use Rattle.decoder.specs.Written.{blank_where}
 use Rattle.image.specs.Rules.{sound}
-use Rattle.lookups.specs.declared.CodePlace.{CodePlace}
-use Rattle.lookups.specs.declared.CodePlace.TheVariants as place
 use Rattle.lookups.specs.Code.{code_place}
 use Rattle.lookups.specs.Code as code
 use Rattle.vm.specs.declared.Gpr.{Gpr}
@@ -26,6 +23,9 @@ use Rattle.step.specs.declared.Leave.TheVariants.{Ended, Illegal, Jump, Call, Fo
 use Rattle.step.specs.declared.Stepped.{Stepped}
 use Rattle.step.specs.Ways.{left_of}
 use Rattle.step.specs.Step.{access_result, cleared_of, done_of, step_of, placed_of, stepped_of, answer_of}
+use Rattle.lookups.specs.declared.PlaceError.TheVariants as place
+use Rattle.lookups.specs.declared.PlaceError.{PlaceError}
+use Rattle.places.specs.declared.RelocationTarget.{RelocationTarget}
 
 length_blank : {A : Type 0} (b : A) (f : ℕ → Bool) (i : ℕ) (xs : List A) → length (blank_where b f i xs) ≡ length xs
 unfolding blank_where
@@ -69,9 +69,9 @@ pub step_whole : (ws : List ℕ) (at : SectionAddress) (w : ℕ) {s : VM} → Wh
 unfolding step_of
 step_whole ws at w h = done_whole _ ws at w h
 
-access_answers : (seen : MaybeTarget) (g : Gpr) (w : ℕ) → answer_of (access_result seen g w) ≡ 0
-access_answers (Known t) g w = refl
-access_answers Missing g w = refl
+access_answers : (seen : Option RelocationTarget) (g : Gpr) (w : ℕ) → answer_of (access_result seen g w) ≡ 0
+access_answers (Some t) g w = refl
+access_answers None g w = refl
 
 left_answers : (l : Leave) (at : SectionAddress) (s : VM) → answer_of (left_of l at s).result ≡ 0
 unfolding left_of
@@ -102,10 +102,10 @@ pub step_answers : (ws : List ℕ) (at : SectionAddress) (w : ℕ) (s : VM) → 
 unfolding step_of
 step_answers ws at w s = done_answers _ ws at w s
 
-placed_answers : (p : CodePlace) (ws : List ℕ) (at : SectionAddress) (w : ℕ) (s : VM) → answer_of (placed_of p ws at w s).result ≡ code.answer_of p
-placed_answers place.NotCode ws at w s = refl
-placed_answers place.Misaligned ws at w s = refl
-placed_answers place.Fine ws at w s = step_answers ws at w s
+placed_answers : (p : Result ⊤ PlaceError) (ws : List ℕ) (at : SectionAddress) (w : ℕ) (s : VM) → answer_of (placed_of p ws at w s).result ≡ code.answer_of p
+placed_answers (Err place.NotCode) ws at w s = refl
+placed_answers (Err place.Misaligned) ws at w s = refl
+placed_answers (Ok tt) ws at w s = step_answers ws at w s
 
 picked : (b : Bool) (r q : Stepped) → answer_of (pick b r q).result ≡ pick b (answer_of r.result) (answer_of q.result)
 picked true r q = refl

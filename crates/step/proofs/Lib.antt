@@ -1,8 +1,6 @@
 -- Laws that belong to no one function.
 pub mod Accesses
 pub mod Blank
-pub mod Effects
 pub mod Judging
 pub mod Masks
-pub mod Targets
 pub mod Laws

@@ -1,12 +1,10 @@
 -- The arms of vm.rs in its order: from a word and the records of its operands to what the word does.
 -- Assumes nothing. gs, ga, gb are the records of rS (the bits of rD), rA and rB.
-use Rattle.std.specs.Prelude.{ℕ, Bool, true, false, List, eqb}
+use Rattle.std.specs.Prelude.{ℕ, Bool, true, false, List, eqb, Option, Some, None}
 use Rattle.words.specs.Choice.{pick}
 use Rattle.words.specs.Word.{field, flag, simm_of, spr_of}
 use Rattle.words.specs.Bits.{mask_of}
 use Rattle.places.specs.declared.SectionAddress.{SectionAddress}
-use Rattle.places.specs.declared.MaybeTarget.{MaybeTarget}
-use Rattle.places.specs.declared.MaybeTarget.TheVariants.{Missing, Known}
 use Rattle.decoder.specs.declared.Decoded.{Decoded}
 use Rattle.decoder.specs.declared.Writes.{Writes}
 use Rattle.decoder.specs.declared.Op.{Op}
@@ -21,6 +19,7 @@ use Rattle.vm.specs.Rules.{add_of, addis_of, addi_of, subf_of, subfic_of, ori_of
 use Rattle.step.specs.declared.Way.TheVariants as way
 use Rattle.step.specs.declared.Effect.{Effect}
 use Rattle.step.specs.declared.Effect.TheVariants.{Nothing, SetD, SetA, Compare, ToLr, ToCtr, FromLr, FromCtr, Load, Store, Clear, Leaves}
+use Rattle.places.specs.declared.RelocationTarget.{RelocationTarget}
 
 -- the operands' numbers
 abbrev pub rd_of : ℕ → ℕ
@@ -39,19 +38,19 @@ abbrev pub uimm_of : ℕ → ℕ
 uimm_of w = field w 16 31
 
 -- addis rD, rA, SIMM: the relocation if there is one; lis rD, SIMM
-unfoldable pub addis_gpr : MaybeTarget → SectionAddress → ℕ → GprValue → Gpr
-addis_gpr (Known t) at w left = high (Address t) at
-addis_gpr Missing at w left = pick (eqb (ra_of w) 0) (high (addis_of (Constant 0) (simm_of w)) at) (direct (addis_of left (simm_of w)))
+unfoldable pub addis_gpr : Option RelocationTarget → SectionAddress → ℕ → GprValue → Gpr
+addis_gpr (Some t) at w left = high (Address t) at
+addis_gpr None at w left = pick (eqb (ra_of w) 0) (high (addis_of (Constant 0) (simm_of w)) at) (direct (addis_of left (simm_of w)))
 
 -- addi rD, rA, SIMM: the relocation if there is one; li rD, SIMM where rA 0 means zero
-unfoldable pub addi_gpr : MaybeTarget → Bool → SectionAddress → ℕ → Gpr → Gpr
-addi_gpr (Known t) zero at w ga = low (Address t) at ga
-addi_gpr Missing zero at w ga = pick zero (direct (addi_of (Constant 0) (simm_of w))) (low (addi_of ga.value (simm_of w)) at ga)
+unfoldable pub addi_gpr : Option RelocationTarget → Bool → SectionAddress → ℕ → Gpr → Gpr
+addi_gpr (Some t) zero at w ga = low (Address t) at ga
+addi_gpr None zero at w ga = pick zero (direct (addi_of (Constant 0) (simm_of w))) (low (addi_of ga.value (simm_of w)) at ga)
 
 -- ori rA, rS, UIMM: the relocation if there is one
-unfoldable pub ori_gpr : MaybeTarget → SectionAddress → ℕ → Gpr → Gpr
-ori_gpr (Known t) at w gs = low (Address t) at gs
-ori_gpr Missing at w gs = low (ori_of gs.value (uimm_of w)) at gs
+unfoldable pub ori_gpr : Option RelocationTarget → SectionAddress → ℕ → Gpr → Gpr
+ori_gpr (Some t) at w gs = low (Address t) at gs
+ori_gpr None at w gs = low (ori_of gs.value (uimm_of w)) at gs
 
 -- or rA, rS, rB: a copy of the whole record where rS is rB
 unfoldable pub or_gpr : ℕ → Gpr → Gpr → Gpr
@@ -72,7 +71,7 @@ unfoldable pub from_spr : ℕ → Effect
 from_spr w = pick (eqb (spr_of w) 8) FromLr (pick (eqb (spr_of w) 9) FromCtr (SetD blank))
 
 -- what a displacement load or store reaches
-abbrev pub seen_at : List ℕ → SectionAddress → ℕ → GprValue → MaybeTarget
+abbrev pub seen_at : List ℕ → SectionAddress → ℕ → GprValue → Option RelocationTarget
 seen_at ws at w base = seen_of (section_address_for ws at) base (simm_of w)
 
 -- the load rule: the displacement loads and stores

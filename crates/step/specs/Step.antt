@@ -1,16 +1,12 @@
 -- One step: what an effect does to the state, and the refusals of the public function.
 -- Assumes nothing.
-use Rattle.std.specs.Prelude.{ℕ, ◌/◌, List}
+use Rattle.std.specs.Prelude.{ℕ, ◌/◌, List, Result, Ok, Err, ⊤, Option, Some, None}
 use Rattle.words.specs.Choice.{pick}
 use Rattle.places.specs.declared.SectionAddress.{SectionAddress}
-use Rattle.places.specs.declared.MaybeTarget.{MaybeTarget}
-use Rattle.places.specs.declared.MaybeTarget.TheVariants.{Missing, Known}
 use Rattle.decoder.specs.declared.Writes.{Writes}
 use Rattle.decoder.specs.Decode.{decoded}
 use Rattle.decoder.specs.Written.{writes_by, blank_where}
 use Rattle.image.specs.Rules.{sound}
-use Rattle.lookups.specs.declared.CodePlace.{CodePlace}
-use Rattle.lookups.specs.declared.CodePlace.TheVariants as place
 use Rattle.lookups.specs.Code.{code_place}
 use Rattle.vm.specs.declared.Gpr.{Gpr}
 use Rattle.vm.specs.declared.VM.{VM}
@@ -24,15 +20,18 @@ use Rattle.step.specs.declared.StepResult.TheVariants as result
 use Rattle.step.specs.declared.Stepped.{Stepped}
 use Rattle.step.specs.Arms.{rd_of, ra_of, rb_of, crfd_of, effect_of}
 use Rattle.step.specs.Ways.{bi_of, leave_of, left_of}
+use Rattle.lookups.specs.declared.PlaceError.TheVariants as place
+use Rattle.lookups.specs.declared.PlaceError.{PlaceError}
+use Rattle.places.specs.declared.RelocationTarget.{RelocationTarget}
 
 abbrev pub goes_on : VM → Stepped
 goes_on s = record { result = result.Continue; vm = s; other = s }
 
-abbrev pub access_result : MaybeTarget → Gpr → ℕ → StepResult
-access_result (Known t) source w = result.LoadStore t source (ra_of w)
-access_result Missing source w = result.Continue
+abbrev pub access_result : Option RelocationTarget → Gpr → ℕ → StepResult
+access_result (Some t) source w = result.LoadStore t source (ra_of w)
+access_result None source w = result.Continue
 
-abbrev pub accessed : MaybeTarget → Gpr → ℕ → VM → Stepped
+abbrev pub accessed : Option RelocationTarget → Gpr → ℕ → VM → Stepped
 accessed seen source w s = record { result = access_result seen source w; vm = s; other = s }
 
 -- every register that a word of this kind writes becomes Unknown
@@ -67,10 +66,10 @@ abbrev pub refused_of : Refusal → VM → Stepped
 refused_of why s = record { result = result.Refused why; vm = s; other = s }
 
 -- 2, 3, or the step
-abbrev pub placed_of : CodePlace → List ℕ → SectionAddress → ℕ → VM → Stepped
-placed_of place.NotCode ws at w s = refused_of NotCode s
-placed_of place.Misaligned ws at w s = refused_of Misaligned s
-placed_of place.Fine ws at w s = step_of ws at w s
+abbrev pub placed_of : Result ⊤ PlaceError → List ℕ → SectionAddress → ℕ → VM → Stepped
+placed_of (Err place.NotCode) ws at w s = refused_of NotCode s
+placed_of (Err place.Misaligned) ws at w s = refused_of Misaligned s
+placed_of (Ok tt) ws at w s = step_of ws at w s
 
 -- `step` over a buffer of n bytes: 1, 2, 3, or the step
 abbrev pub stepped_of : List ℕ → ℕ → SectionAddress → ℕ → VM → Stepped

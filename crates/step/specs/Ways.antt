@@ -1,12 +1,11 @@
 -- The words that end a straight run: vm.rs's branch arm, rfi and Illegal.
 -- Assumes nothing.
-use Rattle.std.specs.Prelude.{ℕ, ◌/◌, ◌%◌, Bool, true, false, ◌&&◌, List, eqb}
+use Rattle.std.specs.Prelude.{ℕ, ◌/◌, ◌%◌, Bool, true, false, ◌&&◌, List, eqb, Option}
 use Rattle.std.specs.Int.Bits.{bit_and}
 use Rattle.words.specs.Choice.{pick}
 use Rattle.words.specs.Word.{field, flag}
 use Rattle.places.specs.declared.SectionAddress.{SectionAddress}
 use Rattle.places.specs.declared.RelocationTarget.TheVariants as target
-use Rattle.places.specs.declared.MaybeTarget.{MaybeTarget}
 use Rattle.places.specs.Places.{moved}
 use Rattle.decoder.specs.Decode.{branch_dest}
 use Rattle.lookups.specs.Relocations.{section_address_for}
@@ -26,6 +25,7 @@ use Rattle.step.specs.declared.Way.{Way}
 use Rattle.step.specs.declared.Way.TheVariants as way
 use Rattle.step.specs.declared.Leave.{Leave}
 use Rattle.step.specs.declared.Leave.TheVariants.{Ended, Illegal, Jump, Call, Fork, Both}
+use Rattle.places.specs.declared.RelocationTarget.{RelocationTarget}
 
 abbrev pub bo_of : ℕ → ℕ
 bo_of w = field w 6 10
@@ -34,7 +34,7 @@ abbrev pub bi_of : ℕ → ℕ
 bi_of w = field w 11 15
 
 -- b[c]ctr[l]: a table only without link
-abbrev pub ctr_target : (ℕ → MaybeTarget) → Bool → GprValue → BranchTarget
+abbrev pub ctr_target : (ℕ → Option RelocationTarget) → Bool → GprValue → BranchTarget
 ctr_target find lk value.Unknown = Unknown
 ctr_target find lk (value.Constant n) = reached_of (find n)
 ctr_target find lk (value.Address t) = Address t

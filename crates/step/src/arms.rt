@@ -12,6 +12,7 @@ use vm::{Gpr, GprValue, rule};
 use words::{field, mask};
 
 // gs, ga and gb are the records of rS (the bits of rD), rA and rB.
+#[tactic(auto, using(crate::proofs::Masks::masked), unfolding(crate::specs::Arms::effect_by))]
 pub fn effect(
     im: &[u32],
     at: SectionAddress,

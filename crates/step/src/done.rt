@@ -6,7 +6,7 @@ ghost use Rattle.step.specs.Step.{goes_on, access_result, accessed, cleared_of, 
 
 use crate::{Effect, StepResult, Stepped, arms, ways};
 use decoder::Writes;
-use places::{MaybeTarget, SectionAddress};
+use places::{RelocationTarget, SectionAddress};
 use vm::register::set_direct;
 use vm::{Gpr, GprValue, Held, VM};
 use words::field;
@@ -22,21 +22,20 @@ fn goes_on(s: VM) -> Stepped
 }
 
 // The result of a load or store through rA.
-pub fn access_result(seen: MaybeTarget, source: Gpr, w: u32) -> StepResult
+pub fn access_result(seen: Option<RelocationTarget>, source: Gpr, w: u32) -> StepResult
     ensures { result ≡ access_result seen source w }
 {
-    let a = field::ra(w) as u8;
     match seen {
-        MaybeTarget::Known(t) => StepResult::LoadStore {
+        Some(t) => StepResult::LoadStore {
             address: t,
-            source: source,
-            source_reg: a,
+            source,
+            source_reg: field::ra(w) as u8,
         },
-        MaybeTarget::Missing => StepResult::Continue,
+        None => StepResult::Continue,
     }
 }
 
-fn accessed_by(seen: MaybeTarget, source: Gpr, w: u32, s: VM) -> Stepped
+fn accessed_by(seen: Option<RelocationTarget>, source: Gpr, w: u32, s: VM) -> Stepped
     ensures { result ≡ accessed seen source w s }
 {
     Stepped {
@@ -72,6 +71,7 @@ fn clear(kind: Writes, w: u32, s: VM) -> VM
     }
 }
 
+#[tactic(auto, unfolding(crate::specs::Step::done_of, crate::specs::Step::step_of))]
 pub fn step_word(im: &[u32], at: SectionAddress, w: u32, s: VM) -> Stepped
     requires { tables_sound im.now ≡ true }
     ensures { result ≡ step_of im.now at w s }

@@ -11,9 +11,9 @@ pub mod records;
 pub mod ways;
 
 use decoder::Writes;
-use image::Judged;
-use lookups::CodePlace;
-use places::{MaybeTarget, RelocationTarget, SectionAddress};
+use image::BrokenImage;
+use lookups::PlaceError;
+use places::{RelocationTarget, SectionAddress};
 use vm::{BranchTarget, Cr, Gpr, GprValue, VM};
 
 // Why `step` refuses: document 01's 1, 2 and 3.
@@ -31,6 +31,7 @@ pub struct Branch {
     pub link: bool,
 }
 
+// Refused is a variant and no Err: `state_after` of straight's theorem, demand 3, reads the state that a refusal hands back.
 #[derive(Clone, Copy)]
 pub enum StepResult {
     Continue,
@@ -81,8 +82,14 @@ pub enum Effect {
     FromLr,
     FromCtr,
     // rA's record after it, and what it reached; a Load also makes rD Unknown.
-    Load { base: Gpr, seen: MaybeTarget },
-    Store { base: Gpr, seen: MaybeTarget },
+    Load {
+        base: Gpr,
+        seen: Option<RelocationTarget>,
+    },
+    Store {
+        base: Gpr,
+        seen: Option<RelocationTarget>,
+    },
     Clear(Writes),
     Leaves(Way),
 }
@@ -130,16 +137,12 @@ fn refused(why: Refusal, state: VM) -> Stepped
 pub fn step(im: &[u32], data: &[u8], at: SectionAddress, word: u32, state: VM) -> Stepped
     ensures { result ≡ stepped_of im.now (length «data».now) at word state }
 {
-    let judged = image::check_image(im, data);
-    match judged {
-        Judged::Broken => refused(Refusal::BrokenImage, state),
-        Judged::Sound => {
-            let place = lookups::code_place(im, at);
-            match place {
-                CodePlace::NotCode => refused(Refusal::NotCode, state),
-                CodePlace::Misaligned => refused(Refusal::Misaligned, state),
-                CodePlace::Fine => done::step_word(im, at, word, state),
-            }
-        }
+    match image::check_image(im, data) {
+        Err(_) => refused(Refusal::BrokenImage, state),
+        Ok(()) => match lookups::code_place(im, at) {
+            Err(PlaceError::NotCode) => refused(Refusal::NotCode, state),
+            Err(PlaceError::Misaligned) => refused(Refusal::Misaligned, state),
+            Ok(()) => done::step_word(im, at, word, state),
+        },
     }
 }

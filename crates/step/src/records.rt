@@ -8,18 +8,19 @@ ghost use Rattle.step.specs.Arms.{addis_gpr, addi_gpr, ori_gpr, or_gpr, compare_
 
 use crate::Effect;
 use decoder::Op;
-use places::{MaybeTarget, SectionAddress};
+use places::{RelocationTarget, SectionAddress};
 use vm::register::{set_direct, set_hi, set_lo, with_value};
 use vm::{Cr, Gpr, GprValue, rule};
 use words::field;
 
 // addis rD, rA, SIMM
-pub fn addis(known: MaybeTarget, at: SectionAddress, w: u32, left: GprValue) -> Gpr
+#[tactic(auto, unfolding(crate::specs::Arms::addis_gpr))]
+pub fn addis(known: Option<RelocationTarget>, at: SectionAddress, w: u32, left: GprValue) -> Gpr
     ensures { result ≡ addis_gpr known at w left }
 {
     match known {
-        MaybeTarget::Known(t) => set_hi(GprValue::Address(t), at),
-        MaybeTarget::Missing => {
+        Some(t) => set_hi(GprValue::Address(t), at),
+        None => {
             let simm = field::simm(w);
             if field::ra(w) == 0 {
                 // lis rD, SIMM
@@ -32,39 +33,43 @@ pub fn addis(known: MaybeTarget, at: SectionAddress, w: u32, left: GprValue) -> 
 }
 
 // addi rD, rA, SIMM, and addic and addic., of which rA 0 is register 0
-pub fn addi(known: MaybeTarget, load_zero: bool, at: SectionAddress, w: u32, ga: Gpr) -> Gpr
+#[tactic(auto, unfolding(crate::specs::Arms::addi_gpr))]
+pub fn addi(
+    known: Option<RelocationTarget>,
+    load_zero: bool,
+    at: SectionAddress,
+    w: u32,
+    ga: Gpr,
+) -> Gpr
     ensures { result ≡ addi_gpr known load_zero at w ga }
 {
     match known {
-        MaybeTarget::Known(t) => set_lo(GprValue::Address(t), at, ga),
-        MaybeTarget::Missing => {
+        Some(t) => set_lo(GprValue::Address(t), at, ga),
+        None => {
             let simm = field::simm(w);
             if load_zero {
                 // li rD, SIMM
                 set_direct(rule::addi(GprValue::Constant(0), simm))
             } else {
-                let left = ga.value;
-                set_lo(rule::addi(left, simm), at, ga)
+                set_lo(rule::addi(ga.value, simm), at, ga)
             }
         }
     }
 }
 
 // ori rA, rS, UIMM
-pub fn ori(known: MaybeTarget, at: SectionAddress, w: u32, gs: Gpr) -> Gpr
+#[tactic(auto, unfolding(crate::specs::Arms::ori_gpr))]
+pub fn ori(known: Option<RelocationTarget>, at: SectionAddress, w: u32, gs: Gpr) -> Gpr
     ensures { result ≡ ori_gpr known at w gs }
 {
     match known {
-        MaybeTarget::Known(t) => set_lo(GprValue::Address(t), at, gs),
-        MaybeTarget::Missing => {
-            let left = gs.value;
-            let uimm = field::uimm(w);
-            set_lo(rule::ori(left, uimm), at, gs)
-        }
+        Some(t) => set_lo(GprValue::Address(t), at, gs),
+        None => set_lo(rule::ori(gs.value, field::uimm(w)), at, gs),
     }
 }
 
 // or rA, rS, rB
+#[tactic(auto, unfolding(crate::specs::Arms::or_gpr))]
 pub fn or(w: u32, gs: Gpr, gb: Gpr) -> Gpr
     ensures { result ≡ or_gpr w gs gb }
 {
@@ -72,37 +77,34 @@ pub fn or(w: u32, gs: Gpr, gb: Gpr) -> Gpr
         // Register copy
         gs
     } else {
-        let left = gs.value;
-        let right = gb.value;
-        set_direct(rule::or(left, right))
+        set_direct(rule::or(gs.value, gb.value))
     }
 }
 
 // cmp, cmpi, cmpl, cmpli: with L set, nothing
+#[tactic(auto, unfolding(crate::specs::Arms::compare_of))]
 pub fn compare(w: u32, ga: Gpr, right: GprValue, signed: bool) -> Effect
     ensures { result ≡ compare_of w ga right signed }
 {
     if field::l(w) {
         Effect::Nothing
     } else {
-        let left = ga.value;
         let c = Cr {
-            left: left,
-            right: right,
-            signed: signed,
+            left: ga.value,
+            right,
+            signed,
         };
-        let crf = field::crfd(w);
-        let g = with_value(ga, GprValue::ComparisonResult(crf));
+        let g = with_value(ga, GprValue::ComparisonResult(field::crfd(w)));
         Effect::Compare(c, g)
     }
 }
 
 // mtspr SPR, rS
+#[tactic(auto, unfolding(crate::specs::Arms::to_spr))]
 pub fn mtspr(w: u32, value: GprValue) -> Effect
     ensures { result ≡ to_spr w value }
 {
-    let spr = field::spr(w);
-    match spr {
+    match field::spr(w) {
         8 => Effect::ToLr(value),
         9 => Effect::ToCtr(value),
         _ => Effect::Nothing,
@@ -110,11 +112,11 @@ pub fn mtspr(w: u32, value: GprValue) -> Effect
 }
 
 // mfspr rD, SPR
+#[tactic(auto, unfolding(crate::specs::Arms::from_spr))]
 pub fn mfspr(w: u32) -> Effect
     ensures { result ≡ from_spr w }
 {
-    let spr = field::spr(w);
-    match spr {
+    match field::spr(w) {
         8 => Effect::FromLr,
         9 => Effect::FromCtr,
         _ => Effect::SetD(set_direct(GprValue::Unknown)),
@@ -122,43 +124,42 @@ pub fn mfspr(w: u32) -> Effect
 }
 
 // Gpr::address
-pub fn address(im: &[u32], at: SectionAddress, value: GprValue) -> MaybeTarget
+pub fn address(im: &[u32], at: SectionAddress, value: GprValue) -> Option<RelocationTarget>
     requires { tables_sound im.now ≡ true }
     ensures { result ≡ address_of (section_address_for im.now at) value }
 {
     match value {
         GprValue::Constant(n) => lookups::section_address_for(im, at, n),
-        GprValue::Address(t) => MaybeTarget::Known(t),
-        _ => MaybeTarget::Missing,
+        GprValue::Address(t) => Some(t),
+        _ => None,
     }
 }
 
 // What a displacement load or store reaches: an Address base does not get the displacement.
-fn seen(im: &[u32], at: SectionAddress, base: GprValue, simm: u32) -> MaybeTarget
+fn reach(im: &[u32], at: SectionAddress, base: GprValue, simm: u32) -> Option<RelocationTarget>
     requires { tables_sound im.now ≡ true }
     ensures { result ≡ seen_of (section_address_for im.now at) base simm }
 {
     match base {
         GprValue::Constant(n) => {
-            let address = words::sum::wrapping_add(n, simm);
-            lookups::section_address_for(im, at, address)
+            lookups::section_address_for(im, at, words::sum::wrapping_add(n, simm))
         }
-        GprValue::Address(t) => MaybeTarget::Known(t),
-        _ => MaybeTarget::Missing,
+        GprValue::Address(t) => Some(t),
+        _ => None,
     }
 }
 
 // The displacement loads and stores
+#[tactic(auto, unfolding(crate::specs::Arms::access_of))]
 pub fn access(im: &[u32], at: SectionAddress, w: u32, op: Op, ga: Gpr) -> Effect
     requires { tables_sound im.now ≡ true }
     ensures { result ≡ access_of op im.now at w ga }
 {
-    let value = ga.value;
-    let s = seen(im, at, value, field::simm(w));
-    let g = rule::base(ga, decoder::class::is_update_op(op), s, at);
+    let seen = reach(im, at, ga.value, field::simm(w));
+    let base = rule::base(ga, decoder::class::is_update_op(op), seen, at);
     if decoder::class::is_load_op(op) {
-        Effect::Load { base: g, seen: s }
+        Effect::Load { base, seen }
     } else {
-        Effect::Store { base: g, seen: s }
+        Effect::Store { base, seen }
     }
 }

@@ -4,19 +4,19 @@ ghost use Rattle.std.specs.Prelude.{◌≡◌, true};
 ghost use Rattle.image.specs.Rules.{tables_sound};
 ghost use Rattle.lookups.specs.Relocations.{section_address_for};
 ghost use Rattle.vm.specs.Rules.{reached_of};
-ghost use Rattle.step.specs.Ways.{ctr_target, conditional_of, branch_of, leave_of, left_of};
+ghost use Rattle.step.specs.Ways.{ctr_target, dest_target, conditional_of, branch_of, leave_of, branches_of, left_of};
 
 use crate::{Branch, Leave, StepResult, Stepped, Way};
-use places::{MaybeTarget, RelocationTarget, SectionAddress};
+use places::{RelocationTarget, SectionAddress};
 use vm::{BranchTarget, Cr, GprValue, VM, rule};
 use words::field;
 
-fn reached(known: MaybeTarget) -> BranchTarget
+fn reached(known: Option<RelocationTarget>) -> BranchTarget
     ensures { result ≡ reached_of known }
 {
     match known {
-        MaybeTarget::Known(t) => BranchTarget::Address(t),
-        MaybeTarget::Missing => BranchTarget::Unknown,
+        Some(t) => BranchTarget::Address(t),
+        None => BranchTarget::Unknown,
     }
 }
 
@@ -31,21 +31,24 @@ fn ctr_target(im: &[u32], at: SectionAddress, ctr: GprValue, lk: bool) -> Branch
         GprValue::LoadIndexed {
             address,
             max_offset,
-        } => {
-            if lk {
-                BranchTarget::Unknown
-            } else {
-                let size = rule::size(max_offset);
-                BranchTarget::JumpTable {
-                    address: address,
-                    size: size,
-                }
-            }
-        }
+        } if !lk => BranchTarget::JumpTable {
+            address,
+            size: rule::size(max_offset),
+        },
         _ => BranchTarget::Unknown,
     }
 }
 
+// Where b and bc lead.
+fn dest_target(im: &[u32], at: SectionAddress, w: u32) -> BranchTarget
+    requires { tables_sound im.now ≡ true }
+    ensures { result ≡ dest_target im.now at w }
+{
+    let n = decoder::branch_dest(w, at.address);
+    reached(lookups::section_address_for(im, at, n))
+}
+
+#[tactic(auto, unfolding(crate::specs::Ways::conditional_of))]
 fn conditional(w: u32, target: BranchTarget, cr: Cr) -> Leave
     ensures { result ≡ conditional_of w target cr }
 {
@@ -54,19 +57,18 @@ fn conditional(w: u32, target: BranchTarget, cr: Cr) -> Leave
     let f = s.fails;
     let t = s.holds;
     let crf = (bi / 4) as u8;
-    let pattern = field::bo(w) & 30;
-    match pattern {
+    match field::bo(w) & 30 {
         // Branch if false
         4 => Leave::Fork {
-            target: target,
-            crf: crf,
+            target,
+            crf,
             stays: t,
             goes: f,
         },
         // Branch if true
         12 => Leave::Fork {
-            target: target,
-            crf: crf,
+            target,
+            crf,
             stays: f,
             goes: t,
         },
@@ -87,6 +89,7 @@ fn branch(w: u32, always: bool, target: BranchTarget, cr: Cr) -> Leave
 }
 
 // cr is the compare record of the field that BI names.
+#[tactic(auto, unfolding(crate::specs::Ways::leave_of))]
 pub fn leave(im: &[u32], at: SectionAddress, w: u32, way: Way, ctr: GprValue, cr: Cr) -> Leave
     requires { tables_sound im.now ≡ true }
     ensures { result ≡ leave_of way im.now at w ctr cr }
@@ -94,48 +97,37 @@ pub fn leave(im: &[u32], at: SectionAddress, w: u32, way: Way, ctr: GprValue, cr
     let always = field::bo(w) & 20 == 20;
     match way {
         Way::Illegal => Leave::Illegal,
-        Way::B => {
-            let linked = field::lk(w);
-            let absolute = field::aa(w);
-            if linked & absolute {
-                // HACK for `bla 0x60` in __OSDBJump
-                Leave::Jump(BranchTarget::Unknown)
-            } else {
-                let n = decoder::branch_dest(w, at.address);
-                let target = reached(lookups::section_address_for(im, at, n));
-                branch(w, true, target, cr)
-            }
-        }
-        Way::Bc => {
-            let n = decoder::branch_dest(w, at.address);
-            let target = reached(lookups::section_address_for(im, at, n));
-            branch(w, always, target, cr)
-        }
-        Way::Bcctr => {
-            let target = ctr_target(im, at, ctr, field::lk(w));
-            branch(w, always, target, cr)
-        }
+        // HACK for `bla 0x60` in __OSDBJump
+        Way::B if field::lk(w) && field::aa(w) => Leave::Jump(BranchTarget::Unknown),
+        Way::B => branch(w, true, dest_target(im, at, w), cr),
+        Way::Bc => branch(w, always, dest_target(im, at, w), cr),
+        Way::Bcctr => branch(w, always, ctr_target(im, at, ctr, field::lk(w)), cr),
         Way::Bclr => branch(w, always, BranchTarget::Return, cr),
         Way::Rfi => Leave::Jump(BranchTarget::Unknown),
     }
 }
 
+// Both ways of a branch: the next word, never linked, and the target.
+fn branches(at: SectionAddress, target: BranchTarget, link: bool) -> StepResult
+    ensures { result ≡ branches_of at target link }
+{
+    let next = RelocationTarget::Address(places::offset(at, 4));
+    StepResult::Branch {
+        first: Branch {
+            target: BranchTarget::Address(next),
+            link: false,
+        },
+        second: Branch { target, link },
+    }
+}
+
 // The result of leaving, with both states.
+#[tactic(auto, unfolding(crate::specs::Ways::left_of))]
 pub fn left(l: Leave, at: SectionAddress, s: VM) -> Stepped
     ensures { result ≡ left_of l at s }
 {
-    let next = BranchTarget::Address(RelocationTarget::Address(places::offset(at, 4)));
-    let first = Branch {
-        target: next,
-        link: false,
-    };
     match l {
-        Leave::Ended => Stepped {
-            result: StepResult::Illegal,
-            vm: s,
-            other: s,
-        },
-        Leave::Illegal => Stepped {
+        Leave::Ended | Leave::Illegal => Stepped {
             result: StepResult::Illegal,
             vm: s,
             other: s,
@@ -145,52 +137,25 @@ pub fn left(l: Leave, at: SectionAddress, s: VM) -> Stepped
             vm: s,
             other: s,
         },
-        Leave::Call(target) => {
-            let second = Branch {
-                target: target,
-                link: true,
-            };
-            Stepped {
-                result: StepResult::Branch {
-                    first: first,
-                    second: second,
-                },
-                vm: vm::state::clone_for_return(s),
-                other: vm::state::clone_for_link(s),
-            }
-        }
+        Leave::Call(target) => Stepped {
+            result: branches(at, target, true),
+            vm: vm::state::clone_for_return(s),
+            other: vm::state::clone_for_link(s),
+        },
         Leave::Fork {
             target,
             crf,
             stays,
             goes,
-        } => {
-            let second = Branch {
-                target: target,
-                link: false,
-            };
-            Stepped {
-                result: StepResult::Branch {
-                    first: first,
-                    second: second,
-                },
-                vm: vm::state::set_comparison_result(s, stays, crf),
-                other: vm::state::set_comparison_result(s, goes, crf),
-            }
-        }
-        Leave::Both(target) => {
-            let second = Branch {
-                target: target,
-                link: false,
-            };
-            Stepped {
-                result: StepResult::Branch {
-                    first: first,
-                    second: second,
-                },
-                vm: s,
-                other: s,
-            }
-        }
+        } => Stepped {
+            result: branches(at, target, false),
+            vm: vm::state::set_comparison_result(s, stays, crf),
+            other: vm::state::set_comparison_result(s, goes, crf),
+        },
+        Leave::Both(target) => Stepped {
+            result: branches(at, target, false),
+            vm: s,
+            other: s,
+        },
     }
 }

@@ -2,19 +2,13 @@
 // instructions; the words follow, at most 16,383 of them. Prints where the last run stopped.
 #![tactic(auto)]
 
-ghost use Rattle.std.specs.Prelude.{◌≡◌, true, length};
+ghost use Rattle.std.specs.Prelude.{◌≡◌, true};
 ghost use Rattle.image.specs.Rules.{tables_sound};
 
 use cells::STATE_WORDS;
 use places::SectionAddress;
 use std::io;
-use streams::read_full;
-
-fn room() -> [u8; 65536]
-    ensures { 65536 ≡ length result }
-{
-    [0; 65536]
-}
+use streams::{read_full, room};
 
 fn repeat(im: &[u32], code: &[u8], turns: u32) -> u32
     requires { tables_sound im.now ≡ true }
@@ -23,15 +17,12 @@ fn repeat(im: &[u32], code: &[u8], turns: u32) -> u32
         section: 0,
         address: 4096,
     };
-    let mut stopped: u32 = 0;
-    let mut k: u32 = 0;
-    while k < turns {
+    let mut stopped = 0;
+    for _ in 0..turns {
         let mut state = [0u32; STATE_WORDS];
         cells::put_state(&mut state, vm::state::new());
         let r = runs::run(im, code, start, &mut state);
-        let at = r.at;
-        stopped = at.address;
-        k += 1;
+        stopped = r.at.address;
     }
     stopped
 }
@@ -52,7 +43,7 @@ fn main(rt: HostRuntime) -> io::Result<()> {
     let mut input = rt.stdin();
     let mut four = [0u8; 4];
     let got = read_full(&mut input, &mut four)?;
-    let mut buffer = room();
+    let mut buffer: [u8; 65536] = room(0);
     let n = read_full(&mut input, &mut buffer)?;
     if got == 4 {
         return measure(&rt, &buffer[..n], words::bytes::word_at(&four, 0));

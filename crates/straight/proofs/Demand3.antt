@@ -1,5 +1,6 @@
 -- DEMAND 3: the theorem, over a run of any length. One word by Steps and Holding; then induction on the words.
 -- Assumes nothing.
+use Rattle.std.specs.Prelude.{Result, ⊤}
 use mathlib.Core.Path.{◌≡◌, refl, sym, ap, ◌∙◌, subst}
 use mathlib.Core.Bool.{Bool, true, false}
 use mathlib.Core.List.{List}
@@ -16,7 +17,6 @@ use Rattle.words.specs.Word.{bit}
 use Rattle.words.proofs.Fields.{field_lt}
 use Rattle.words.proofs.Number.{number_lt}
 use Rattle.places.specs.declared.SectionAddress.{SectionAddress}
-use Rattle.lookups.specs.declared.CodePlace.{CodePlace}
 use Rattle.lookups.specs.Code.{code_place}
 use Rattle.vm.specs.declared.VM.{VM}
 use Rattle.vm.specs.declared.Gpr.{Gpr}
@@ -30,6 +30,7 @@ use Rattle.straight.specs.Run.{place_of, word_of, StraightRun, step_at, state_af
 use Rattle.straight.specs.Demand3.{Holds, OnlyChanges, AtWord, Whole, Demanded}
 use Rattle.straight.proofs.Steps.{bare_has_none, record_of, steps_on}
 use Rattle.straight.proofs.Holding.{number_put, constant_put}
+use Rattle.lookups.specs.declared.PlaceError.{PlaceError}
 
 -- ---- one register written
 
@@ -121,7 +122,7 @@ module _ (ws bs : List ℕ) (p : SectionAddress) (kinds : ℕ → Kind) (n : ℕ
       → step_at ws bs p k s ≡ goes_on (with_reg s (destination (kinds k) (word k)) (record_of (kinds k) (place_of p k) (word k) s))
   steps k h s =
       ap (λ (t : Bool). pick t (placed_of (code_place ws (place_of p k)) ws (place_of p k) (word k) s) (refused_of BrokenImage s)) run.image
-      ∙ ap (λ (c : CodePlace). placed_of c ws (place_of p k) (word k) s) (run.inside k h)
+      ∙ ap (λ (c : Result ⊤ PlaceError). placed_of c ws (place_of p k) (word k) s) (run.inside k h)
       ∙ steps_on ws (place_of p k) (word k) s (bare_has_none ws (place_of p k) (run.bare k h)) (kinds k) (run.words k h)
 
   at_word : (k : ℕ) → k < n → (s : VM) → Whole s → AtWord (kinds k) (word k) s (step_at ws bs p k s).vm

@@ -1,5 +1,6 @@
 -- A word of the twelve kinds with no relocation puts one record into its destination and goes on.
 -- Assumes nothing.
+use Rattle.std.specs.Prelude.{None, Ok, Option}
 use mathlib.Core.Path.{◌≡◌, refl, ap, ◌∙◌}
 use mathlib.Core.Bool.{Bool, true, false}
 use mathlib.Core.List.{List}
@@ -9,14 +10,10 @@ use Rattle.words.specs.Choice.{pick}
 use Rattle.words.specs.Word.{field, simm_of}
 use Rattle.words.specs.Bits.{mask_of}
 use Rattle.places.specs.declared.SectionAddress.{SectionAddress}
-use Rattle.places.specs.declared.MaybeTarget.{MaybeTarget}
-use Rattle.places.specs.declared.MaybeTarget.TheVariants.{Missing}
-use Rattle.search.specs.declared.Found.{Found}
 use Rattle.search.specs.First.{on_found}
 use Rattle.decoder.specs.declared.Op.{Op}
 use Rattle.decoder.specs.Decode.{decoded}
 use Rattle.image.specs.Layout.{sections, section_at, bound_at, unbound_at}
-use Rattle.lookups.specs.declared.Relocation.TheVariants.{Nothing}
 use Rattle.lookups.specs.declared.Wanted.TheVariants.{Any}
 use Rattle.lookups.specs.Relocations.{relocation_for, bound_target, unbound_target, bound_index, unbound_index, known, target_at}
 use Rattle.vm.specs.declared.VM.{VM}
@@ -30,14 +27,15 @@ use Rattle.step.specs.Step.{goes_on, done_of, step_of}
 use Rattle.straight.specs.Manual.{Kind, add, addi, addic, addic_dot, addis, subf, subfc, subfic, ori, orr, rlwinm, rlwnm, Is, destination}
 use Rattle.straight.specs.Run.{Bare}
 use Rattle.straight.proofs.Decoded.{op_of, decodes}
+use Rattle.places.specs.declared.RelocationTarget.{RelocationTarget}
 
 -- no entry in either table: no relocation
-nothing_known : (ws : List ℕ) (p : SectionAddress) (t : Bool) (f g : Found) → f ≡ Rattle.search.specs.declared.Found.TheVariants.Nothing → g ≡ Rattle.search.specs.declared.Found.TheVariants.Nothing
-    → known (pick t (on_found f (λ (j : ℕ). bound_target Any (bound_at ws j)) (on_found g (λ (j : ℕ). unbound_target ws Any (unbound_at ws j)) Nothing)) Nothing) ≡ Missing
+nothing_known : (ws : List ℕ) (p : SectionAddress) (t : Bool) (f g : Option ℕ) → f ≡ None → g ≡ None
+    → known (pick t (on_found f (λ (j : ℕ). bound_target Any (bound_at ws j)) (on_found g (λ (j : ℕ). unbound_target ws Any (unbound_at ws j)) (Ok None))) (Ok None)) ≡ None
 nothing_known ws p true f g e h = rw (e, h)
 nothing_known ws p false f g e h = refl
 
-pub bare_has_none : (ws : List ℕ) (p : SectionAddress) → Bare ws p → target_at ws p ≡ Missing
+pub bare_has_none : (ws : List ℕ) (p : SectionAddress) → Bare ws p → target_at ws p ≡ None
 unfolding relocation_for
 bare_has_none ws p b =
     nothing_known ws p (ltb p.section (sections ws)) (bound_index ws p) (unbound_index ws (section_at ws p.section).elf p.address) b.0 b.1
@@ -45,14 +43,14 @@ bare_has_none ws p b =
 -- the record that a word of each kind puts into its destination
 abbrev pub record_of : Kind → SectionAddress → ℕ → VM → Gpr
 record_of add at w s = direct (add_of (reg s (ra_of w)).value (reg s (rb_of w)).value)
-record_of addi at w s = addi_gpr Missing (eqb (ra_of w) 0) at w (reg s (ra_of w))
-record_of addic at w s = addi_gpr Missing false at w (reg s (ra_of w))
-record_of addic_dot at w s = addi_gpr Missing false at w (reg s (ra_of w))
-record_of addis at w s = addis_gpr Missing at w (reg s (ra_of w)).value
+record_of addi at w s = addi_gpr None (eqb (ra_of w) 0) at w (reg s (ra_of w))
+record_of addic at w s = addi_gpr None false at w (reg s (ra_of w))
+record_of addic_dot at w s = addi_gpr None false at w (reg s (ra_of w))
+record_of addis at w s = addis_gpr None at w (reg s (ra_of w)).value
 record_of subf at w s = direct (subf_of (reg s (ra_of w)).value (reg s (rb_of w)).value)
 record_of subfc at w s = direct (subf_of (reg s (ra_of w)).value (reg s (rb_of w)).value)
 record_of subfic at w s = direct (subfic_of (reg s (ra_of w)).value (simm_of w))
-record_of ori at w s = ori_gpr Missing at w (reg s (rd_of w))
+record_of ori at w s = ori_gpr None at w (reg s (rd_of w))
 record_of orr at w s = or_gpr w (reg s (rd_of w)) (reg s (rb_of w))
 record_of rlwinm at w s = direct (rotate_of (reg s (rd_of w)).value (field w 16 20) (mask_of (field w 21 25) (field w 26 30)))
 record_of rlwnm at w s = direct (rlwnm_of (reg s (rd_of w)).value (reg s (rb_of w)).value (mask_of (field w 21 25) (field w 26 30)))
@@ -72,21 +70,21 @@ effect orr at w s = SetA (record_of orr at w s)
 effect rlwinm at w s = SetA (record_of rlwinm at w s)
 effect rlwnm at w s = SetA (record_of rlwnm at w s)
 
-module _ (ws : List ℕ) (at : SectionAddress) (w : ℕ) (s : VM) (none : target_at ws at ≡ Missing) where
+module _ (ws : List ℕ) (at : SectionAddress) (w : ℕ) (s : VM) (none : target_at ws at ≡ None) where
   abbrev by : Op → Effect
   by o = effect_by o (decoded w).writes ws at w (reg s (rd_of w)) (reg s (ra_of w)) (reg s (rb_of w))
 
   effect_is : (k : Kind) → by (op_of k) ≡ effect k at w s
   unfolding effect_by effect
   effect_is add = refl
-  effect_is addi = ap (λ (t : MaybeTarget). SetD (addi_gpr t (eqb (ra_of w) 0) at w (reg s (ra_of w)))) none
-  effect_is addic = ap (λ (t : MaybeTarget). SetD (addi_gpr t false at w (reg s (ra_of w)))) none
-  effect_is addic_dot = ap (λ (t : MaybeTarget). SetD (addi_gpr t false at w (reg s (ra_of w)))) none
-  effect_is addis = ap (λ (t : MaybeTarget). SetD (addis_gpr t at w (reg s (ra_of w)).value)) none
+  effect_is addi = ap (λ (t : Option RelocationTarget). SetD (addi_gpr t (eqb (ra_of w) 0) at w (reg s (ra_of w)))) none
+  effect_is addic = ap (λ (t : Option RelocationTarget). SetD (addi_gpr t false at w (reg s (ra_of w)))) none
+  effect_is addic_dot = ap (λ (t : Option RelocationTarget). SetD (addi_gpr t false at w (reg s (ra_of w)))) none
+  effect_is addis = ap (λ (t : Option RelocationTarget). SetD (addis_gpr t at w (reg s (ra_of w)).value)) none
   effect_is subf = refl
   effect_is subfc = refl
   effect_is subfic = refl
-  effect_is ori = ap (λ (t : MaybeTarget). SetA (ori_gpr t at w (reg s (rd_of w)))) none
+  effect_is ori = ap (λ (t : Option RelocationTarget). SetA (ori_gpr t at w (reg s (rd_of w)))) none
   effect_is orr = refl
   effect_is rlwinm = refl
   effect_is rlwnm = refl

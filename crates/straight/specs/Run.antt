@@ -1,12 +1,10 @@
 -- A straight run of words in an image: the abstract states and the machine's registers after each word.
 -- Assumes nothing.
-use Rattle.std.specs.Prelude.{ℕ, zero, suc, ◌+◌, ◌*◌, ◌^◌, ◌<◌, ◌≡◌, true, List, length}
+use Rattle.std.specs.Prelude.{ℕ, zero, suc, ◌+◌, ◌*◌, ◌^◌, ◌<◌, ◌≡◌, true, List, length, Ok, None}
 use Rattle.words.specs.Bytes.{be32}
 use Rattle.places.specs.declared.SectionAddress.{SectionAddress}
-use Rattle.search.specs.declared.Found.TheVariants.{Nothing}
 use Rattle.image.specs.Layout.{section_at}
 use Rattle.image.specs.Rules.{sound}
-use Rattle.lookups.specs.declared.CodePlace.TheVariants.{Fine}
 use Rattle.lookups.specs.Relocations.{bound_index, unbound_index}
 use Rattle.lookups.specs.Bytes.{data_from}
 use Rattle.lookups.specs.Code.{code_place}
@@ -25,12 +23,12 @@ word_of ws bs p = be32 (data_from ws bs p) 0
 
 -- no relocation at its address, in either table
 abbrev pub Bare : List ℕ → SectionAddress → Type 0
-Bare ws p = (bound_index ws p ≡ Nothing) × (unbound_index ws (section_at ws p.section).elf p.address ≡ Nothing)
+Bare ws p = (bound_index ws p ≡ None) × (unbound_index ws (section_at ws p.section).elf p.address ≡ None)
 
 -- n words from p on, inside one Code section of a sound image, of these kinds, none with a relocation at its address
 pub record StraightRun (ws bs : List ℕ) (p : SectionAddress) (kinds : ℕ → Kind) (n : ℕ) : Type 0 where
   pub image : sound ws (length bs) ≡ true
-  pub inside : (k : ℕ) → k < n → code_place ws (place_of p k) ≡ Fine
+  pub inside : (k : ℕ) → k < n → code_place ws (place_of p k) ≡ Ok tt
   pub words : (k : ℕ) → k < n → Is (kinds k) (word_of ws bs (place_of p k))
   pub bare : (k : ℕ) → k < n → Bare ws (place_of p k)
 

@@ -10,8 +10,8 @@ use Rattle.vm.specs.States.{bases_of}
 use Rattle.stack.specs.Stack.{room}
 use Rattle.step.specs.Step.{step_of}
 use Rattle.jump_tables.specs.Tables.{Outcome}
-use Rattle.turns.specs.declared.WalkAnswer.{WalkAnswer}
-use Rattle.turns.specs.declared.WalkAnswer.TheVariants as answer
+use Rattle.turns.specs.declared.WalkError.{WalkError}
+use Rattle.std.specs.Prelude.{⊤, Result, Ok, Err}
 use Rattle.turns.specs.Grounds.{Event, begun, stepped, looked}
 use Rattle.turns.specs.Moves.{Asked, Lent, word_of, move_from, move_at, look_at}
 use Rattle.turns.specs.Walks.{Given, ground_in, judged, walk_over, left_by, refused_with, unless_refused, walked}
@@ -49,7 +49,7 @@ module _ (i : Given) (bs : List ℕ) (lent : Lent) where
     unfolding judged
     judged_alike = rw same
 
-    pub walk_alike : judged i vis ≡ answer.Done → Each (SameData i bs) (walk_over i vis lent).pile.log
+    pub walk_alike : judged i vis ≡ Ok tt → Each (SameData i bs) (walk_over i vis lent).pile.log
         → walk_over (with_bytes i bs) vis lent ≡ walk_over i vis lent
     unfolding walk_over
     walk_alike fine a =
@@ -60,17 +60,13 @@ module _ (i : Given) (bs : List ℕ) (lent : Lent) where
         (agrees (walk_over i vis lent).pile.log a)
 
     -- "the second walk gives the same bits, counts, tables .., refusals included"
-    pub same_answer : (judged i vis ≡ answer.Done → Each (SameData i bs) (walk_over i vis lent).pile.log)
+    pub same_answer : (judged i vis ≡ Ok tt → Each (SameData i bs) (walk_over i vis lent).pile.log)
         → walked (with_bytes i bs) vis lent ≡ walked i vis lent
     unfolding walked
     same_answer a = rw judged_alike (by (judged i vis) refl)
       where
-        by : (t : WalkAnswer) → judged i vis ≡ t
+        by : (t : Result ⊤ WalkError) → judged i vis ≡ t
             → unless_refused t (left_by (walk_over (with_bytes i bs) vis lent)) (λ x. refused_with x vis lent)
             ≡ unless_refused t (left_by (walk_over i vis lent)) (λ x. refused_with x vis lent)
-        by answer.Done e = ap left_by (walk_alike e (a e))
-        by answer.BrokenImage e = refl
-        by answer.NotCode e = refl
-        by answer.Misaligned e = refl
-        by answer.MapTooSmall e = refl
-        by answer.StackFull e = refl
+        by (Ok u) e = ap left_by (walk_alike e (a e))
+        by (Err x) e = refl

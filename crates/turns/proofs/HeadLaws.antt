@@ -18,7 +18,7 @@ use Rattle.stack.specs.Stack.{Entry, Stack, entries, held_at, room}
 use Rattle.stack.proofs.Stacks as stacks
 use Rattle.visited.specs.Bits.{visited_at, with_bit, cleared}
 use Rattle.jump_tables.specs.Tables.{Outcome}
-use Rattle.turns.specs.declared.WalkAnswer.TheVariants as answer
+use Rattle.std.specs.Prelude.{Ok}
 use Rattle.turns.specs.Grounds.{Way, jump, leave, idle, busy, Event, begun, stepped, Pile, pile_of, conf}
 use Rattle.turns.specs.Turns.{push_each, take_ways, turn_of, Reach, here}
 use Rattle.turns.specs.Histories.{Tally}
@@ -37,7 +37,7 @@ use Rattle.turns.proofs.TurnLaws.{turn_past, turn_jump_out, turn_jump_old, turn_
 use Rattle.turns.proofs.WalkLaws.{image_sound, map_room, lawful, walked_whole}
 use Rattle.turns.proofs.StackWords.{entries_length}
 
-module _ (i : Given) (vis : List ℕ) (lent : Lent) (fine : judged i vis ≡ answer.Done) where
+module _ (i : Given) (vis : List ℕ) (lent : Lent) (fine : judged i vis ≡ Ok tt) where
   abbrev bits : code_words i.tables ≤ length vis * 32
   bits = map_room i vis lent fine
 

@@ -18,7 +18,7 @@ use Rattle.step.specs.declared.Stopped.{Stopped}
 use Rattle.step.specs.Ways.{left_of}
 use Rattle.stack.specs.Stack.{Entry}
 use Rattle.visited.specs.Bits.{with_bit, with_run}
-use Rattle.jump_tables.specs.Tables.{Outcome}
+use Rattle.jump_tables.specs.Tables.{Outcome, count_of}
 use Rattle.turns.specs.Grounds.{Way, to, leave, Ground, Pile}
 use Rattle.turns.specs.Turns.{push_at, push_each, take_way, take_ways}
 use Rattle.turns.specs.Moves.{Asked, Lent, place_of, listed_in, ways_of, jump_by, move_by}
@@ -102,8 +102,8 @@ places_split keys i j e a b c = by (j - i) i refl a
         (ap (λ (m : List SectionAddress). place_of (get_or keys i 0) ∷ m) (by d (i + 1) (omega arith) (omega arith)))
 
 -- a read table's entries
-pub places_listed : (o : Outcome) → places_from o.keys 0 o.table.count ≡ listed_in o
-places_listed o = let e : o.table.count - 0 ≡ o.table.count = omega arith in rw e
+pub places_listed : (o : Outcome) → places_from o.keys 0 (count_of o.table) ≡ listed_in o
+places_listed o = let e : count_of o.table - 0 ≡ count_of o.table = omega arith in rw e
 
 -- the word that left is marked with those before it
 pub marks_leaver : (g : Ground SectionAddress VM Asked Outcome Entry Lent) (p : SectionAddress) (s : VM) (v : List ℕ) (r : Stopped) (h : Ran g p s v r)

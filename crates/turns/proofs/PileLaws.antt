@@ -7,10 +7,9 @@ use mathlib.Core.List.{List, [], ◌∷◌, ◌++◌, append_assoc}
 use native.Mathlib.Omega.{arith}
 use lib.ListN.{length, get_or}
 use Rattle.places.specs.declared.SectionAddress.{SectionAddress}
-use Rattle.places.specs.declared.MaybeAddress.{MaybeAddress}
 use Rattle.lookups.specs.Code.{code_place}
 use Rattle.vm.specs.declared.VM.{VM}
-use Rattle.stack.specs.declared.Pushed.{Pushed}
+use Rattle.std.specs.Prelude.{Option, is_some, unwrap_or}
 use Rattle.stack.specs.Stack.{Entry, Stack, room}
 use Rattle.stack.specs.Push.{Pushes}
 use Rattle.stack.proofs.Stacks as stacks
@@ -138,7 +137,7 @@ module _ {words : List ℕ} {n : ℕ} {buffer : List ℕ} where
         (λ l. table_asked g p a s (pile_in words n buffer false l) refl) (let e : r + 0 ≡ r = omega arith in e) (let e : m + 0 ≡ m = omega arith in e)
         (piles_then (asked_for g p a) (push_each g s (g.listed (g.look a))) h i)
 
-module _ (ws bs : List ℕ) (from : SectionAddress) (upto : MaybeAddress) {words : List ℕ} {n : ℕ} {buffer : List ℕ} (slots : ℕ)
+module _ (ws bs : List ℕ) (from : SectionAddress) (upto : Option SectionAddress) {words : List ℕ} {n : ℕ} {buffer : List ℕ} (slots : ℕ)
     (same-room : room (length words) ≡ slots) (st : Stack words n) where
   -- a place that is no word of code
   pub piles_out : (q : SectionAddress) (s : VM) → is_fine (code_place ws q) ≡ false
@@ -148,9 +147,9 @@ module _ (ws bs : List ℕ) (from : SectionAddress) (upto : MaybeAddress) {words
       (λ l. push_out (ground_of ws bs from upto slots) q s (pile_in words n buffer false l) w) st
 
   -- a word of code: what crate `stack` does
-  pub piles_push : (q : SectionAddress) (s : VM) → is_fine (code_place ws q) ≡ true → (r : Pushed) (words' : List ℕ) → Pushes words n q s true r words'
+  pub piles_push : (q : SectionAddress) (s : VM) → is_fine (code_place ws q) ≡ true → (r : Option ℕ) (words' : List ℕ) → Pushes words n q s true r words'
       → length words' ≡ length words
-      → Piles (push_at (ground_of ws bs from upto slots) q s) words n buffer words' r.count buffer (not r.taken) 0 0
+      → Piles (push_at (ground_of ws bs from upto slots) q s) words n buffer words' (unwrap_or r n) buffer (not (is_some r)) 0 0
   piles_push q s w r words' d e = record {
     extra = [];
     same = λ l. rw (← same-room) (push_is ws bs from upto q s words n buffer l st r words' d w);

@@ -9,16 +9,15 @@ use native.Mathlib.Omega.{arith}
 use lib.ListN.{length, replicate, length-append, length-map, length-take}
 use lib.Dec.{eqb, leb}
 use borrow.Author.Tests.{eqb-true, leb-true}
+use Rattle.std.specs.Prelude.{Option, Some, None, Ok, Err}
 use Rattle.words.specs.Choice.{pick}
 use Rattle.words.specs.Sums.{sum}
 use Rattle.places.specs.declared.SectionAddress.{SectionAddress}
 use Rattle.places.specs.declared.RelocationTarget.{RelocationTarget}
 use Rattle.places.specs.declared.RelocationTarget.TheVariants as target
-use Rattle.places.specs.declared.MaybeAddress.{MaybeAddress}
 use Rattle.image.specs.Rules.{sound}
 use Rattle.image.proofs.SoundTables.{tables_of_sound}
 use Rattle.lookups.specs.Code.{in_code, code_place, word_number}
-use Rattle.lookups.specs.declared.CodePlace.TheVariants as place
 use Rattle.lookups.proofs.SoundSections.{InCode, in_code_lem}
 use Rattle.lookups.proofs.WordNumbers.{word_number_below, next_word_number}
 use Rattle.vm.specs.declared.VM.{VM}
@@ -28,20 +27,21 @@ use Rattle.step.specs.declared.StepResult.{StepResult}
 use Rattle.step.specs.declared.StepResult.TheVariants as result
 use Rattle.step.specs.declared.Stepped.{Stepped}
 use Rattle.step.specs.Step.{step_of}
-use Rattle.jump_tables.specs.declared.TableAnswer.{TableAnswer}
-use Rattle.jump_tables.specs.declared.TableAnswer.TheVariants as answer
+use Rattle.jump_tables.specs.declared.TableError.{TableError}
+use Rattle.jump_tables.specs.declared.TableError.TheVariants as error
 use Rattle.jump_tables.specs.declared.Reading.{Reading}
 use Rattle.jump_tables.specs.declared.How.TheVariants.{Sized}
-use Rattle.jump_tables.specs.Tables.{Outcome, refused, filled, fitted, on_verdict, verdict, entries_of, read_off, sized_table, guessed_table, is_table, size_of, table_in, clamped_size, words_passed}
+use Rattle.jump_tables.specs.Tables.{count_of, Outcome, refused, filled, fitted, on_verdict, verdict, entries_of, read_off, sized_table, guessed_table, is_table, size_of, table_in, clamped_size, words_passed}
 use Rattle.turns.specs.Grounds.{Way, to, Move, jump, leave, on_move}
 use Rattle.turns.specs.Moves.{table_room, most_pushed, Asked, is_fine, word_of, asked_of, way_to, ways_of, jump_to, jump_by, move_by, move_at, look_to, look_at, listed_in, ground_of}
 use Rattle.turns.proofs.Lawful.{widths, Lawful}
+use Rattle.lookups.specs.declared.PlaceError.TheVariants as place
 
 -- an aligned code address is in code, and aligned
 pub fine_place : (ws : List ℕ) (p : SectionAddress) → is_fine (code_place ws p) ≡ true → (in_code ws p ≡ true) × (p.address % 4 ≡ 0)
 fine_place ws p = by (in_code ws p) (eqb (p.address % 4) 0) refl
   where
-    by : (c a : Bool) → eqb (p.address % 4) 0 ≡ a → is_fine (pick c (pick a place.Fine place.Misaligned) place.NotCode) ≡ true → (c ≡ true) × (p.address % 4 ≡ 0)
+    by : (c a : Bool) → eqb (p.address % 4) 0 ≡ a → is_fine (pick c (pick a (Ok tt) (Err place.Misaligned)) (Err place.NotCode)) ≡ true → (c ≡ true) × (p.address % 4 ≡ 0)
     by true true e h = (refl, eqb-true _ _ e)
     by true false e h = absurd (true≢false (sym h))
     by false a e h = absurd (true≢false (sym h))
@@ -53,53 +53,49 @@ next_address ws p c a =
     (omega (arith, c.place.upto, c.place.sound.ends, c.place.sound.code_address c.code, c.place.sound.code_size c.code))
 
 -- a table has no more entries than room
-few_either : (t : Bool) (room : ℕ) (a b : Outcome) → a.table.count ≤ room → b.table.count ≤ room → (pick t a b).table.count ≤ room
+few_either : (t : Bool) (room : ℕ) (a b : Outcome) → count_of a.table ≤ room → count_of b.table ≤ room → count_of (pick t a b).table ≤ room
 few_either true room a b h i = h
 few_either false room a b h i = i
 
-fitted_few : (ks : List ℕ) (n room : ℕ) → (fitted ks n room).table.count ≤ room
+fitted_few : (ks : List ℕ) (n room : ℕ) → count_of (fitted ks n room).table ≤ room
 fitted_few ks n room = by (leb (length ks) room) refl
   where
     by : (t : Bool) → leb (length ks) room ≡ t
-        → (pick t (record { table = record { answer = answer.Read; count = length ks; size = n }; keys = filled ks room }) (refused answer.Full room)).table.count ≤ room
+        → count_of (pick t (record { table = Ok (record { count = length ks; size = n }); keys = filled ks room }) (refused error.Full room)).table ≤ room
     by true e = leb-true _ _ e
     by false e = omega arith
 
-verdict_few : (a : TableAnswer) (o : Outcome) (room : ℕ) → o.table.count ≤ room → (on_verdict a o room).table.count ≤ room
-verdict_few answer.Broken o room h = omega arith
-verdict_few answer.RelocationError o room h = omega arith
-verdict_few answer.Ragged o room h = omega arith
-verdict_few answer.PointsNowhere o room h = omega arith
-verdict_few answer.Full o room h = omega arith
-verdict_few answer.Read o room h = h
+verdict_few : (a : Option TableError) (o : Outcome) (room : ℕ) → count_of o.table ≤ room → count_of (on_verdict a o room).table ≤ room
+verdict_few None o room h = h
+verdict_few (Some e) o room h = omega arith
 
-read_few : (rs : List Reading) (room : ℕ) → (read_off rs room).table.count ≤ room
+read_few : (rs : List Reading) (room : ℕ) → count_of (read_off rs room).table ≤ room
 unfolding read_off
 read_few rs room = verdict_few (verdict rs) (fitted (entries_of rs []) (length rs * 4) room) room (fitted_few (entries_of rs []) (length rs * 4) room)
 
-sized_few : (ws bs : List ℕ) (p : SectionAddress) (n room : ℕ) → (sized_table ws bs p n room).table.count ≤ room
+sized_few : (ws bs : List ℕ) (p : SectionAddress) (n room : ℕ) → count_of (sized_table ws bs p n room).table ≤ room
 unfolding sized_table
 sized_few ws bs p n room =
-    few_either (eqb (clamped_size ws p n % 4) 0) room (read_off (words_passed ws bs Sized p (clamped_size ws p n / 4)) room) (refused answer.Ragged room)
+    few_either (eqb (clamped_size ws p n % 4) 0) room (read_off (words_passed ws bs Sized p (clamped_size ws p n / 4)) room) (refused error.Ragged room)
     (read_few _ room) (omega arith)
 
-guessed_few : (ws bs : List ℕ) (p from : SectionAddress) (upto : MaybeAddress) (room : ℕ) → (guessed_table ws bs p from upto room).table.count ≤ room
+guessed_few : (ws bs : List ℕ) (p from : SectionAddress) (upto : Option SectionAddress) (room : ℕ) → count_of (guessed_table ws bs p from upto room).table ≤ room
 unfolding guessed_table
 guessed_few ws bs p from upto room = read_few _ room
 
-table_few : (ws bs : List ℕ) (p : SectionAddress) (n : ℕ) (from : SectionAddress) (upto : MaybeAddress) (room : ℕ)
-    → (table_in ws bs p n from upto room).table.count ≤ room
+pub table_few : (ws bs : List ℕ) (p : SectionAddress) (n : ℕ) (from : SectionAddress) (upto : Option SectionAddress) (room : ℕ)
+    → count_of (table_in ws bs p n from upto room).table ≤ room
 unfolding table_in
 table_few ws bs p n from upto room =
     few_either (is_table ws p) room
     (pick (eqb (size_of ws p n) 0) (guessed_table ws bs p from upto room) (sized_table ws bs p (size_of ws p n) room))
-    (record { table = record { answer = answer.Read; count = 0; size = 0 }; keys = replicate room 0 })
+    (record { table = Ok (record { count = 0; size = 0 }); keys = replicate room 0 })
     (few_either (eqb (size_of ws p n) 0) room (guessed_table ws bs p from upto room) (sized_table ws bs p (size_of ws p n) room)
     (guessed_few ws bs p from upto room) (sized_few ws bs p (size_of ws p n) room))
     (omega arith)
 
-module _ (ws bs : List ℕ) (from : SectionAddress) (upto : MaybeAddress) (slots : ℕ) where
-  look_few : (t : RelocationTarget) (n : ℕ) → (look_to ws bs from upto t n).table.count ≤ table_room
+module _ (ws bs : List ℕ) (from : SectionAddress) (upto : Option SectionAddress) (slots : ℕ) where
+  look_few : (t : RelocationTarget) (n : ℕ) → count_of (look_to ws bs from upto t n).table ≤ table_room
   look_few target.External n = omega arith
   look_few (target.Address p) n = table_few ws bs p n from upto table_room
 

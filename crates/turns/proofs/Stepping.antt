@@ -1,5 +1,6 @@
 -- What a step's result asks of the walk, by whether it goes on or leaves.
 -- Assumes nothing.
+use Rattle.std.specs.Prelude.{Option, Some, None}
 use Prim.Native.Nat.{ℕ, ◌/◌, ◌%◌}
 use mathlib.Core.Path.{◌≡◌, refl, sym}
 use mathlib.Core.Bool.{Bool, true, false, ◌&&◌, true≢false}
@@ -9,8 +10,6 @@ use lib.Dec.{eqb}
 use Rattle.words.specs.Choice.{pick}
 use Rattle.words.specs.Word.{flag}
 use Rattle.places.specs.declared.SectionAddress.{SectionAddress}
-use Rattle.places.specs.declared.MaybeTarget.{MaybeTarget}
-use Rattle.places.specs.declared.MaybeTarget.TheVariants.{Missing, Known}
 use Rattle.vm.specs.declared.VM.{VM}
 use Rattle.vm.specs.declared.Gpr.{Gpr}
 use Rattle.vm.specs.declared.Cr.{Cr}
@@ -33,6 +32,7 @@ use Rattle.step.specs.Runs.{on_going, leave_by}
 use Rattle.turns.specs.Grounds.{on}
 use Rattle.turns.specs.Moves.{word_of, move_by, move_at}
 use Rattle.turns.specs.Straight.{is_ended, leaving}
+use Rattle.places.specs.declared.RelocationTarget.{RelocationTarget}
 
 -- the result goes on to the next word
 abbrev pub goes_on : StepResult → Bool
@@ -64,9 +64,9 @@ goes_move ws bs p s e =
     move_on p r.result r.vm r.other e
 
 -- a load or store goes on
-access_goes : (t : MaybeTarget) (g : Gpr) (w : ℕ) → goes_on (access_result t g w) ≡ true
-access_goes (Known t) g w = refl
-access_goes Missing g w = refl
+access_goes : (t : Option RelocationTarget) (g : Gpr) (w : ℕ) → goes_on (access_result t g w) ≡ true
+access_goes (Some t) g w = refl
+access_goes None g w = refl
 
 -- no way of leaving is the section's end
 either_way : (t : Bool) (a b : Leave) → is_ended a ≡ false → is_ended b ≡ false → is_ended (pick t a b) ≡ false

@@ -1,5 +1,6 @@
 -- A straight run of crate `step` is so many turns of the walk, whatever the stack holds.
 -- Assumes a sound image and a run that begins at a word of code.
+use Rattle.std.specs.Prelude.{Option}
 use Prim.Native.Nat.{ℕ, zero, suc, ◌+◌, ◌-◌, ◌*◌, ◌/◌, ◌≤◌, ◌<◌}
 use mathlib.Core.Path.{◌≡◌, refl, sym, ap, ◌∙◌}
 use mathlib.Core.Bool.{Bool, true, false, not, true≢false}
@@ -9,7 +10,6 @@ use native.Mathlib.Omega.{arith}
 use lib.ListN.{length}
 use Rattle.words.specs.Choice.{pick}
 use Rattle.places.specs.declared.SectionAddress.{SectionAddress}
-use Rattle.places.specs.declared.MaybeAddress.{MaybeAddress}
 use Rattle.image.specs.Layout.{section_at}
 use Rattle.image.specs.Rules.{end_of, code_words, sound}
 use Rattle.lookups.specs.Bytes.{data_from}
@@ -28,7 +28,7 @@ use Rattle.turns.proofs.SoundGround.{image_lawful}
 use Rattle.turns.proofs.Stepping.{goes_on, going_by, goes_move, step_leaves, leaves_move}
 use Rattle.turns.proofs.WordsInCode.{words_on, below_end, whole_words, word_there, no_word_there, number_there, next_there, code_length, word_in_code}
 
-module _ (ws bs : List ℕ) (from : SectionAddress) (upto : MaybeAddress) (slots : ℕ) (fine : sound ws (length bs) ≡ true)
+module _ (ws bs : List ℕ) (from : SectionAddress) (upto : Option SectionAddress) (slots : ℕ) (fine : sound ws (length bs) ≡ true)
     (p : SectionAddress) (word : is_fine (code_place ws p) ≡ true) (s : VM) (v : List ℕ)
     (bits : code_words ws ≤ length v * 32) where
   -- k words went on

@@ -7,6 +7,7 @@ use mathlib.Core.List.{List, [], ◌∷◌}
 use native.Mathlib.Omega.{arith}
 use lib.ListN.{length}
 use borrow.Author.Tests.{leb-true}
+use Rattle.std.specs.Prelude.{⊤, Result, Ok, Err}
 use Rattle.words.specs.Choice.{pick}
 use Rattle.places.specs.declared.SectionAddress.{SectionAddress}
 use Rattle.image.specs.Rules.{code_words, sound}
@@ -15,8 +16,8 @@ use Rattle.vm.specs.declared.VM.{VM}
 use Rattle.vm.specs.States.{bases_of}
 use Rattle.stack.specs.Stack.{room}
 use Rattle.visited.specs.Bits.{bit_at, visited_at, has_room, ones_below}
-use Rattle.turns.specs.declared.WalkAnswer.{WalkAnswer}
-use Rattle.turns.specs.declared.WalkAnswer.TheVariants as answer
+use Rattle.turns.specs.declared.WalkError.{WalkError}
+use Rattle.turns.specs.declared.WalkError.TheVariants as error
 use Rattle.turns.specs.Turns.{ended}
 use Rattle.turns.specs.Histories.{steps, first_visits, blocks, tables, ReachedFrom}
 use Rattle.turns.specs.Moves.{Lent, is_fine}
@@ -31,23 +32,23 @@ use Rattle.turns.proofs.HighBits.{high_bits_stay}
 use Rattle.turns.proofs.SoundGround.{image_lawful}
 
 -- answers are told apart by their numbers
-done_or_not : (t : Bool) (a z : WalkAnswer) → pick t a z ≡ answer.Done → (z ≡ answer.Done → ⊥) → t ≡ true
+done_or_not : (t : Bool) (a z : Result ⊤ WalkError) → pick t a z ≡ Ok tt → (z ≡ Ok tt → ⊥) → t ≡ true
 done_or_not true a z e n = refl
 done_or_not false a z e n = absurd (n e)
 
-number_of : {a b : WalkAnswer} → a ≡ b → Rattle.turns.specs.Walks.answer_of a ≡ Rattle.turns.specs.Walks.answer_of b
-number_of e = ap (λ (a : WalkAnswer). Rattle.turns.specs.Walks.answer_of a) e
+number_of : {a b : Result ⊤ WalkError} → a ≡ b → Rattle.turns.specs.Walks.answer_of a ≡ Rattle.turns.specs.Walks.answer_of b
+number_of e = ap (λ (a : Result ⊤ WalkError). Rattle.turns.specs.Walks.answer_of a) e
 
-module _ (i : Given) (vis : List ℕ) (lent : Lent) (fine : judged i vis ≡ answer.Done) where
+module _ (i : Given) (vis : List ℕ) (lent : Lent) (fine : judged i vis ≡ Ok tt) where
   -- the image is sound, the map has its bits
   pub image_sound : sound i.tables (length i.bytes) ≡ true
   unfolding judged
-  image_sound = done_or_not (sound i.tables (length i.bytes)) _ answer.BrokenImage fine (λ e. let z = number_of e in omega arith)
+  image_sound = done_or_not (sound i.tables (length i.bytes)) _ (Err error.BrokenImage) fine (λ e. let z = number_of e in omega arith)
 
   pub map_room : code_words i.tables ≤ length vis * 32
   unfolding judged
   map_room =
-      leb-true _ _ (done_or_not (has_room vis (code_words i.tables)) _ answer.MapTooSmall (rw image_sound at fine) (λ e. let z = number_of e in omega arith))
+      leb-true _ _ (done_or_not (has_room vis (code_words i.tables)) _ (Err error.MapTooSmall) (rw image_sound at fine) (λ e. let z = number_of e in omega arith))
 
   pub lawful : Lawful (ground_in i lent)
   lawful = image_lawful i.tables i.bytes i.from i.upto (room (length lent.stack)) image_sound
@@ -115,12 +116,12 @@ module _ (i : Given) (vis : List ℕ) (lent : Lent) (fine : judged i vis ≡ ans
 
 -- refusals: 1, 4, then the starts in turn, 2 before 3 for each; nothing is touched and the counts are 0
 pub refuses_1 : (i : Given) (vis : List ℕ) (lent : Lent) → sound i.tables (length i.bytes) ≡ false
-    → walked i vis lent ≡ refused_with answer.BrokenImage vis lent
+    → walked i vis lent ≡ refused_with error.BrokenImage vis lent
 unfolding walked judged
 refuses_1 i vis lent e = rw e
 
 pub refuses_4 : (i : Given) (vis : List ℕ) (lent : Lent) → sound i.tables (length i.bytes) ≡ true → has_room vis (code_words i.tables) ≡ false
-    → walked i vis lent ≡ refused_with answer.MapTooSmall vis lent
+    → walked i vis lent ≡ refused_with error.MapTooSmall vis lent
 unfolding walked judged
 refuses_4 i vis lent e r = rw (e, r)
 

@@ -1,5 +1,6 @@
 -- The words from a place of code to its section's end: their numbers, and their bytes in what `data_from` hands back.
 -- Assumes a sound image and a place that is a word of code.
+use Rattle.std.specs.Prelude.{Some}
 use Prim.Native.Nat.{ℕ, suc, ◌+◌, ◌-◌, ◌*◌, ◌/◌, ◌%◌, ◌≤◌, ◌<◌}
 use mathlib.Core.Path.{◌≡◌, ap, ◌∙◌}
 use mathlib.Core.Bool.{true, false}
@@ -17,7 +18,6 @@ use Rattle.image.specs.Layout.{sections, section_at}
 use Rattle.image.specs.Rules.{end_of, sound}
 use Rattle.image.proofs.SoundTables.{tables_of_sound, data_of_sound}
 use Rattle.lookups.specs.Bytes.{offset_in, has_data, data_from, word_at}
-use Rattle.lookups.specs.declared.MaybeWord.TheVariants.{Read}
 use Rattle.lookups.specs.Code.{in_code, code_place, word_number}
 use Rattle.lookups.proofs.SoundSections.{InCode, in_code_lem, HasData, has_data_lem}
 use Rattle.turns.specs.Moves.{is_fine, word_of}
@@ -107,11 +107,11 @@ module _ (ws bs : List ℕ) (fine : sound ws (length bs) ≡ true) (p : SectionA
       omega (arith, first_of_word k l, byte_of_word k 1 l (omega arith), byte_of_word k 2 l (omega arith), byte_of_word k 3 l (omega arith))
 
   -- the walk's word is the one that lookups read
-  pub word_is_read : word_at ws bs p ≡ Read (word_of ws bs p)
+  pub word_is_read : word_at ws bs p ≡ Some (word_of ws bs p)
   word_is_read =
       let c = code_there in
       let four : 4 ≤ length (data_from ws bs p) =
       omega (arith, code_length, aligned_there, c.place.upto, c.place.sound.code_address c.code, c.place.sound.code_size c.code) in
       let here : p.address + 0 * 4 ≡ p.address = omega arith in
       rw (le-leb 4 (length (data_from ws bs p)) four)
-      (ap Read (word_in_code 0 (omega (arith, c.place.upto)) ∙ ap (λ (a : ℕ). word_of ws bs (record { section = p.section; address = a })) here))
+      (ap Some (word_in_code 0 (omega (arith, c.place.upto)) ∙ ap (λ (a : ℕ). word_of ws bs (record { section = p.section; address = a })) here))

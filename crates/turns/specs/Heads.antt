@@ -1,12 +1,12 @@
 -- Where the code of a walk stands between two blocks: what it holds in words and numbers, and the turns that lead there.
 -- Assumes nothing.
-use Rattle.std.specs.Prelude.{ℕ, ◌+◌, ◌≡◌, Bool, false, List, ◌++◌, length}
+use Rattle.std.specs.Prelude.{ℕ, ◌+◌, ◌≡◌, Bool, false, Ok, Err, List, ◌++◌, length}
 use Rattle.words.specs.Choice.{pick}
 use Rattle.places.specs.declared.SectionAddress.{SectionAddress}
 use Rattle.vm.specs.declared.VM.{VM}
 use Rattle.stack.specs.Stack.{Entry, Stack, entries, room}
 use Rattle.jump_tables.specs.Tables.{Outcome}
-use Rattle.turns.specs.declared.WalkAnswer.TheVariants as answer
+use Rattle.turns.specs.declared.WalkError.TheVariants as error
 use Rattle.turns.specs.Grounds.{idle, Event, Pile, pile_of, conf}
 use Rattle.turns.specs.Turns.{Reach, left_in}
 use Rattle.turns.specs.Histories.{Tally}
@@ -42,7 +42,7 @@ head_left i lent n v = left_in (ground_in i lent) idle v + n
 -- what the walk leaves there, where it is done
 abbrev pub left_at : List ℕ → ℕ → List ℕ → Bool → List ℕ → ℕ → ℕ → ℕ → ℕ → Leaves
 left_at words n buffer full v a b c d = record {
-  result = record { answer = pick full answer.StackFull answer.Done; stepped = a; begun = b; read = c; not_read = d; held = n };
+  result = record { answer = pick full (Err error.StackFull) (Ok tt); stepped = a; begun = b; read = c; not_read = d; held = n };
   vis = v;
   lent = record { stack = words; entries = buffer };
 }

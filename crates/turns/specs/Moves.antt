@@ -1,21 +1,16 @@
 -- What each word and each table of an image asks of the walk: document 01, section "Executor and walk", sentence by sentence.
 -- Assumes nothing; it is meant for sound images.
-use Rattle.std.specs.Prelude.{ℕ, ◌/◌, ◌%◌, ◌^◌, Bool, true, false, List, [], ◌∷◌, ◌++◌, map, take, eqb}
+use Rattle.std.specs.Prelude.{ℕ, ◌/◌, ◌%◌, ◌^◌, Bool, true, false, List, [], ◌∷◌, ◌++◌, map, take, eqb, Result, Ok, Err, ⊤, Option, Some, None}
 use Rattle.words.specs.Choice.{pick}
 use Rattle.words.specs.Bytes.{be32}
 use Rattle.places.specs.Places.{moved}
 use Rattle.places.specs.declared.SectionAddress.{SectionAddress}
 use Rattle.places.specs.declared.RelocationTarget.{RelocationTarget}
 use Rattle.places.specs.declared.RelocationTarget.TheVariants as target
-use Rattle.places.specs.declared.MaybeAddress.{MaybeAddress}
 use Rattle.image.specs.Rules.{code_words}
 use Rattle.lookups.specs.Bytes.{offset_in}
 use Rattle.lookups.specs.Code.{code_place, word_number}
-use Rattle.lookups.specs.declared.CodePlace.{CodePlace}
-use Rattle.lookups.specs.declared.CodePlace.TheVariants as place
 use Rattle.vm.specs.declared.VM.{VM}
-use Rattle.vm.specs.declared.TableSize.{TableSize}
-use Rattle.vm.specs.declared.TableSize.TheVariants as size
 use Rattle.vm.specs.declared.BranchTarget.{BranchTarget}
 use Rattle.vm.specs.declared.BranchTarget.TheVariants as branch
 use Rattle.step.specs.declared.StepResult.{StepResult}
@@ -24,9 +19,11 @@ use Rattle.step.specs.declared.Stepped.{Stepped}
 use Rattle.step.specs.Step.{step_of}
 use Rattle.stack.specs.Stack.{Entry, entry_key}
 use Rattle.stack.specs.Push.{pushed_words}
-use Rattle.jump_tables.specs.declared.TableAnswer.TheVariants as answer
-use Rattle.jump_tables.specs.Tables.{Outcome, refused, answer_of, table_in, size_of}
+use Rattle.jump_tables.specs.declared.TableError.TheVariants as error
+use Rattle.jump_tables.specs.Tables.{Outcome, refused, answer_of, count_of, table_in, size_of}
 use Rattle.turns.specs.Grounds.{Way, to, table, Move, on, jump, leave, Ground}
+use Rattle.lookups.specs.declared.PlaceError.TheVariants as place
+use Rattle.lookups.specs.declared.PlaceError.{PlaceError}
 
 -- how many entries a table may have in a walk, and how many places one word can push: two ways of so many
 abbrev pub table_room : ℕ
@@ -46,20 +43,20 @@ pub record Lent : Type 0 where
   pub entries : List ℕ
 
 -- an aligned code address
-abbrev pub is_fine : CodePlace → Bool
-is_fine place.NotCode = false
-is_fine place.Misaligned = false
-is_fine place.Fine = true
+abbrev pub is_fine : Result ⊤ PlaceError → Bool
+is_fine (Err place.NotCode) = false
+is_fine (Err place.Misaligned) = false
+is_fine (Ok tt) = true
 
 -- the word at a place: its four bytes in the buffer
 abbrev pub word_of : List ℕ → List ℕ → SectionAddress → ℕ
 word_of ws bs p = be32 bs (offset_in ws p.section p.address)
 
-abbrev pub size_in : TableSize → ℕ
-size_in size.Guessed = 0
-size_in (size.Bytes n) = n
+abbrev pub size_in : Option ℕ → ℕ
+size_in None = 0
+size_in (Some n) = n
 
-abbrev pub asked_of : RelocationTarget → TableSize → Asked
+abbrev pub asked_of : RelocationTarget → Option ℕ → Asked
 asked_of t n = record { target = t; size = size_in n }
 
 -- External leads nowhere
@@ -107,16 +104,16 @@ unfoldable pub move_at : List ℕ → List ℕ → SectionAddress → VM → Mov
 move_at ws bs p s = move_from p (step_of ws p (word_of ws bs p) s)
 
 -- "read with the given function bounds and 1,024 entries"; External is not read
-abbrev pub look_to : List ℕ → List ℕ → SectionAddress → MaybeAddress → RelocationTarget → ℕ → Outcome
-look_to ws bs from upto target.External n = refused answer.PointsNowhere table_room
+abbrev pub look_to : List ℕ → List ℕ → SectionAddress → Option SectionAddress → RelocationTarget → ℕ → Outcome
+look_to ws bs from upto target.External n = refused error.PointsNowhere table_room
 look_to ws bs from upto (target.Address p) n = table_in ws bs p n from upto table_room
 
-unfoldable pub look_at : List ℕ → List ℕ → SectionAddress → MaybeAddress → Asked → Outcome
+unfoldable pub look_at : List ℕ → List ℕ → SectionAddress → Option SectionAddress → Asked → Outcome
 look_at ws bs from upto a = look_to ws bs from upto a.target a.size
 
 -- "A refused or External table adds one to "tables not read"": all others were read, empty or not
 abbrev pub is_read : Outcome → Bool
-is_read o = eqb (answer_of o.table.answer) 0
+is_read o = eqb (answer_of o.table) 0
 
 -- an entry is its section's index times 2^32 plus its address
 abbrev pub place_of : ℕ → SectionAddress
@@ -124,7 +121,7 @@ place_of k = record { section = k / 2 ^ 32; address = k % 2 ^ 32 }
 
 -- the entries, ascending; a refused table has none
 abbrev pub listed_in : Outcome → List SectionAddress
-listed_in o = map place_of (take o.table.count o.keys)
+listed_in o = map place_of (take (count_of o.table) o.keys)
 
 -- the table has no known size: neither its symbol's nor the found one
 abbrev pub guessed_to : List ℕ → RelocationTarget → ℕ → Bool
@@ -147,7 +144,7 @@ abbrev pub reading : Lent → Asked → Outcome → Lent
 reading m a o = record { stack = m.stack; entries = reading_to a.target m.entries o.keys }
 
 -- the ground of an image: tables ws, data bs, function bounds, and so many slots
-abbrev pub ground_of : List ℕ → List ℕ → SectionAddress → MaybeAddress → ℕ → Ground SectionAddress VM Asked Outcome Entry Lent
+abbrev pub ground_of : List ℕ → List ℕ → SectionAddress → Option SectionAddress → ℕ → Ground SectionAddress VM Asked Outcome Entry Lent
 ground_of ws bs from upto slots = record {
   words = code_words ws;
   slots = slots;

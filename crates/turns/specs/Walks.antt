@@ -1,26 +1,24 @@
 -- The walk's answer: document 01's refusals in their order, else the walk from its starts, and what it leaves.
 -- Assumes nothing.
-use Rattle.std.specs.Prelude.{ℕ, List, [], ◌∷◌, length}
+use Rattle.std.specs.Prelude.{ℕ, ⊤, Result, Ok, Err, List, [], ◌∷◌, length, Option}
 use Rattle.words.specs.Choice.{pick}
 use Rattle.places.specs.declared.SectionAddress.{SectionAddress}
-use Rattle.places.specs.declared.MaybeAddress.{MaybeAddress}
 use Rattle.image.specs.Rules.{code_words, sound}
 use Rattle.lookups.specs.Code.{code_place}
-use Rattle.lookups.specs.declared.CodePlace.{CodePlace}
-use Rattle.lookups.specs.declared.CodePlace.TheVariants as place
 use Rattle.vm.specs.declared.VM.{VM}
-use Rattle.vm.specs.declared.MaybeBase.{MaybeBase}
 use Rattle.vm.specs.States.{bases_of}
 use Rattle.stack.specs.Stack.{Entry, room}
 use Rattle.visited.specs.Bits.{has_room}
 use Rattle.jump_tables.specs.Tables.{Outcome}
-use Rattle.turns.specs.declared.WalkAnswer.{WalkAnswer}
-use Rattle.turns.specs.declared.WalkAnswer.TheVariants as answer
+use Rattle.turns.specs.declared.WalkError.{WalkError}
+use Rattle.turns.specs.declared.WalkError.TheVariants as error
 use Rattle.turns.specs.declared.Walked.{Walked}
 use Rattle.turns.specs.Grounds.{Ground, Conf, Event}
 use Rattle.turns.specs.Turns.{start_of, walk_of}
 use Rattle.turns.specs.Histories.{steps, blocks, tables_read, tables_not_read, in_order}
 use Rattle.turns.specs.Moves.{Asked, Lent, is_read, ground_of}
+use Rattle.lookups.specs.declared.PlaceError.TheVariants as place
+use Rattle.lookups.specs.declared.PlaceError.{PlaceError}
 
 -- what a walk is given
 pub record Given : Type 0 where
@@ -29,13 +27,13 @@ pub record Given : Type 0 where
   pub bytes : List ℕ
   -- the starts in turn, and the numbers of r2 and r13
   pub starts : List SectionAddress
-  pub two : MaybeBase
-  pub thirteen : MaybeBase
+  pub two : Option ℕ
+  pub thirteen : Option ℕ
   -- the function bounds of guessed tables
   pub from : SectionAddress
-  pub upto : MaybeAddress
+  pub upto : Option SectionAddress
 
-abbrev pub given : List ℕ → List ℕ → List SectionAddress → MaybeBase → MaybeBase → SectionAddress → MaybeAddress → Given
+abbrev pub given : List ℕ → List ℕ → List SectionAddress → Option ℕ → Option ℕ → SectionAddress → Option SectionAddress → Given
 given ws bs starts two thirteen from upto =
     record { tables = ws; bytes = bs; starts = starts; two = two; thirteen = thirteen; from = from; upto = upto }
 
@@ -43,31 +41,35 @@ given ws bs starts two thirteen from upto =
 abbrev pub Standing : Type 0
 Standing = Conf SectionAddress VM Asked Outcome Entry Lent
 
--- document 01's number of each answer
-abbrev pub answer_of : WalkAnswer → ℕ
-answer_of answer.Done = 0
-answer_of answer.BrokenImage = 1
-answer_of answer.NotCode = 2
-answer_of answer.Misaligned = 3
-answer_of answer.MapTooSmall = 4
-answer_of answer.StackFull = 5
+-- document 01's number of each refusal
+abbrev pub error_number : WalkError → ℕ
+error_number error.BrokenImage = 1
+error_number error.NotCode = 2
+error_number error.Misaligned = 3
+error_number error.MapTooSmall = 4
+error_number error.StackFull = 5
+
+-- and of each answer: 0 for a walk that ran to its end
+abbrev pub answer_of : Result ⊤ WalkError → ℕ
+answer_of (Ok u) = 0
+answer_of (Err e) = error_number e
 
 -- "judge all starts in turn (2, then 3)": the first bad one decides
-abbrev pub judged_by : CodePlace → WalkAnswer → WalkAnswer
-judged_by place.NotCode z = answer.NotCode
-judged_by place.Misaligned z = answer.Misaligned
-judged_by place.Fine z = z
+abbrev pub judged_by : Result ⊤ PlaceError → Result ⊤ WalkError → Result ⊤ WalkError
+judged_by (Err place.NotCode) z = Err error.NotCode
+judged_by (Err place.Misaligned) z = Err error.Misaligned
+judged_by (Ok tt) z = z
 
-unfoldable pub starts_judged : List ℕ → List SectionAddress → WalkAnswer
-starts_judged ws [] = answer.Done
+unfoldable pub starts_judged : List ℕ → List SectionAddress → Result ⊤ WalkError
+starts_judged ws [] = Ok tt
 starts_judged ws (p ∷ ps) = judged_by (code_place ws p) (starts_judged ws ps)
 
 -- 1, 4, then the starts
-unfoldable pub judged : Given → List ℕ → WalkAnswer
+unfoldable pub judged : Given → List ℕ → Result ⊤ WalkError
 judged i vis =
     pick (sound i.tables (length i.bytes))
-    (pick (has_room vis (code_words i.tables)) (starts_judged i.tables i.starts) answer.MapTooSmall)
-    answer.BrokenImage
+    (pick (has_room vis (code_words i.tables)) (starts_judged i.tables i.starts) (Err error.MapTooSmall))
+    (Err error.BrokenImage)
 
 -- the ground of what is given
 abbrev pub ground_in : Given → Lent → Ground SectionAddress VM Asked Outcome Entry Lent
@@ -92,15 +94,15 @@ pub record Leaves : Type 0 where
   pub lent : Lent
 
 -- "On 1, 4, 2, 3" nothing is touched and the counts are 0
-abbrev pub refused_with : WalkAnswer → List ℕ → Lent → Leaves
-refused_with a vis lent =
-    record { result = record { answer = a; stepped = 0; begun = 0; read = 0; not_read = 0; held = 0 }; vis = vis; lent = lent }
+abbrev pub refused_with : WalkError → List ℕ → Lent → Leaves
+refused_with e vis lent =
+    record { result = record { answer = Err e; stepped = 0; begun = 0; read = 0; not_read = 0; held = 0 }; vis = vis; lent = lent }
 
 -- "In a walk 5 ends it: bits and stack stay as reached, with true counts"
 abbrev pub left_by : Standing → Leaves
 left_by c = record {
   result = record {
-    answer = pick c.pile.full answer.StackFull answer.Done;
+    answer = pick c.pile.full (Err error.StackFull) (Ok tt);
     stepped = steps c.pile.log;
     begun = blocks c.pile.log;
     read = tables_read (λ o. is_read o) c.pile.log;
@@ -112,14 +114,10 @@ left_by c = record {
 }
 
 -- by the judgement: the walk where nothing is refused
-abbrev pub unless_refused : WalkAnswer → Leaves → (WalkAnswer → Leaves) → Leaves
-unless_refused answer.Done z f = z
-unless_refused answer.BrokenImage z f = f answer.BrokenImage
-unless_refused answer.NotCode z f = f answer.NotCode
-unless_refused answer.Misaligned z f = f answer.Misaligned
-unless_refused answer.MapTooSmall z f = f answer.MapTooSmall
-unless_refused answer.StackFull z f = f answer.StackFull
+abbrev pub unless_refused : Result ⊤ WalkError → Leaves → (WalkError → Leaves) → Leaves
+unless_refused (Ok u) z f = z
+unless_refused (Err e) z f = f e
 
 -- the walk
 unfoldable pub walked : Given → List ℕ → Lent → Leaves
-walked i vis lent = unless_refused (judged i vis) (left_by (walk_over i vis lent)) (λ a. refused_with a vis lent)
+walked i vis lent = unless_refused (judged i vis) (left_by (walk_over i vis lent)) (λ e. refused_with e vis lent)

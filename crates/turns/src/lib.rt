@@ -1,11 +1,13 @@
-// The walk's meaning, in specs/, and its laws, in proofs/: one turn, the walk as its repetition, and its history. No code.
+// The walk's meaning, in specs/, and its laws, in proofs/: one turn, the walk as its repetition, and its history.
 // Crate `walk` does what is defined here.
 #![tactic(auto)]
 
-// What a walk answers: 0 for a walk that ran to its end, or document 01's 1, 2, 3, 4, 5.
-#[derive(Clone, Copy)]
-pub enum WalkAnswer {
-    Done,
+ghost use Rattle.std.specs.Prelude.{◌≡◌};
+ghost use Rattle.turns.specs.Walks.{error_number};
+
+// Why a walk is refused, or stopped before its end: document 01's 1, 2, 3, 4; 5 stops it.
+#[derive(Clone, Copy, PartialEq, Eq)]
+pub enum WalkError {
     BrokenImage,
     NotCode,
     Misaligned,
@@ -13,10 +15,24 @@ pub enum WalkAnswer {
     StackFull,
 }
 
-// The answer; how many instructions were stepped, blocks begun, tables read and not read; how many states still wait.
+impl From<WalkError> for u32 {
+    ghost from_gives = { λ e n. n ≡ error_number e };
+
+    fn from(e: WalkError) -> u32 {
+        match e {
+            WalkError::BrokenImage => 1,
+            WalkError::NotCode => 2,
+            WalkError::Misaligned => 3,
+            WalkError::MapTooSmall => 4,
+            WalkError::StackFull => 5,
+        }
+    }
+}
+
+// Whether the walk ran to its end; how many instructions were stepped, blocks begun, tables read and not read; how many states still wait.
 #[derive(Clone, Copy)]
 pub struct Walked {
-    pub answer: WalkAnswer,
+    pub answer: Result<(), WalkError>,
     pub stepped: u64,
     pub begun: u64,
     pub read: u64,

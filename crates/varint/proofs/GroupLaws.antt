@@ -8,7 +8,7 @@ use native.Mathlib.Decide.{dec_lt}
 use native.Mathlib.Nat.{mod-eq_of_lt}
 use lib.ListN.{length, get_or}
 use borrow.Author.Tests.{lt-ltb, le-ltb, eq-eqb, ne_eqb}
-use Rattle.varint.specs.declared.Read.TheVariants.{Number, Bad}
+use Rattle.std.specs.Prelude.{Some, None}
 use Rattle.varint.specs.Groups.{groups, joined, read_groups}
 
 pub last_group : (k n : ℕ) → n < 128 → groups k n ≡ n ∷ []
@@ -28,23 +28,23 @@ more_groups (suc k) n h l =
     rw (le-ltb n 128 l, e)
 
 module _ (s : List ℕ) (k at : ℕ) where
-  pub read_end : length s ≤ at → read_groups s k at ≡ Bad
+  pub read_end : length s ≤ at → read_groups s k at ≡ None
   unfolding read_groups
   read_end h = go k
     where
-      go : (j : ℕ) → read_groups s j at ≡ Bad
+      go : (j : ℕ) → read_groups s j at ≡ None
       go zero = rw (le-ltb at (length s) h)
       go (suc j) = rw (le-ltb at (length s) h)
 
-  pub read_last : at < length s → get_or s at 0 < 128 → read_groups s k at ≡ Number (get_or s at 0) (at + 1)
+  pub read_last : at < length s → get_or s at 0 < 128 → read_groups s k at ≡ Some (get_or s at 0, at + 1)
   unfolding read_groups
   read_last h l = go k
     where
-      go : (j : ℕ) → read_groups s j at ≡ Number (get_or s at 0) (at + 1)
+      go : (j : ℕ) → read_groups s j at ≡ Some (get_or s at 0, at + 1)
       go zero = rw (lt-ltb at (length s) h, lt-ltb (get_or s at 0) 128 l)
       go (suc j) = rw (lt-ltb at (length s) h, lt-ltb (get_or s at 0) 128 l)
 
-  pub read_cut : at < length s → 128 ≤ get_or s at 0 → k ≡ 0 → read_groups s k at ≡ Bad
+  pub read_cut : at < length s → 128 ≤ get_or s at 0 → k ≡ 0 → read_groups s k at ≡ None
   unfolding read_groups
   read_cut h l z = ap (λ (j : ℕ). read_groups s j at) z ∙ rw (lt-ltb at (length s) h, le-ltb (get_or s at 0) 128 l)
 
@@ -58,13 +58,13 @@ module _ (s : List ℕ) (k at : ℕ) where
           let e : suc j - 1 ≡ j = omega arith in
           rw (lt-ltb at (length s) h, le-ltb (get_or s at 0) 128 l, e)
 
-pub joined_zero : (b m e : ℕ) → m ≡ 0 → joined b (Number m e) ≡ Bad
+pub joined_zero : (b m e : ℕ) → m ≡ 0 → joined b (Some (m, e)) ≡ None
 joined_zero b m e h = rw (eq-eqb m 0 h)
 
-pub joined_large : (b m e : ℕ) → 33554432 ≤ m → joined b (Number m e) ≡ Bad
+pub joined_large : (b m e : ℕ) → 33554432 ≤ m → joined b (Some (m, e)) ≡ None
 joined_large b m e h = rw (ne_eqb m 0 (λ z. omega arith), le-ltb m 33554432 h)
 
-pub joined_fits : (b m e : ℕ) → (m ≡ 0 → ⊥) → m < 33554432 → joined b (Number m e) ≡ Number (m * 128 + (b - 128)) e
+pub joined_fits : (b m e : ℕ) → (m ≡ 0 → ⊥) → m < 33554432 → joined b (Some (m, e)) ≡ Some (m * 128 + (b - 128), e)
 joined_fits b m e z h = rw (ne_eqb m 0 z, lt-ltb m 33554432 h)
 
 -- at most five bytes

@@ -1,9 +1,11 @@
 -- A number in groups of seven bits, low group first, the top bit set on all but the last; and what reads so at a place.
 -- Assumes nothing.
-use Rattle.std.specs.Prelude.{ℕ, zero, suc, ◌+◌, ◌-◌, ◌*◌, ◌/◌, ◌%◌, List, [], ◌∷◌, length, get_or, ltb, eqb}
+use Rattle.std.specs.Prelude.{ℕ, zero, suc, ◌+◌, ◌-◌, ◌*◌, ◌/◌, ◌%◌, List, [], ◌∷◌, length, get_or, ltb, eqb, Option, Some, None}
 use Rattle.words.specs.Choice.{pick}
-use Rattle.varint.specs.declared.Read.{Read}
-use Rattle.varint.specs.declared.Read.TheVariants.{Number, Bad}
+
+-- a number and the place after it, or none
+abbrev pub Read : Type 0
+Read = Option (ℕ × ℕ)
 
 -- n in at most k + 1 groups
 unfoldable pub groups : ℕ → ℕ → List ℕ
@@ -16,17 +18,17 @@ varint n = groups 4 n
 
 -- a group with its top bit set, below what the groups after it read as: that is no 0 (shortest form), and the whole is below 2^32
 abbrev pub joined : ℕ → Read → Read
-joined b (Number m e) = pick (eqb m 0) Bad (pick (ltb m 0x2000000) (Number (m * 128 + (b - 128)) e) Bad)
-joined b Bad = Bad
+joined b (Some (m, e)) = pick (eqb m 0) None (pick (ltb m 0x2000000) (Some (m * 128 + (b - 128), e)) None)
+joined b None = None
 
 -- what a byte reads as: a last group, or one before what `rest` reads as
 abbrev pub group_at : List ℕ → ℕ → Read → Read
 group_at s at rest =
-    pick (ltb at (length s)) (pick (ltb (get_or s at 0) 128) (Number (get_or s at 0) (at + 1)) (joined (get_or s at 0) rest)) Bad
+    pick (ltb at (length s)) (pick (ltb (get_or s at 0) 128) (Some (get_or s at 0, at + 1)) (joined (get_or s at 0) rest)) None
 
 -- what reads at a place, in at most k + 1 groups
 unfoldable pub read_groups : List ℕ → ℕ → ℕ → Read
-read_groups s zero at = group_at s at Bad
+read_groups s zero at = group_at s at None
 read_groups s (suc k) at = group_at s at (read_groups s k (at + 1))
 
 abbrev pub number_at : List ℕ → ℕ → Read

@@ -6,16 +6,9 @@ ghost use Rattle.std.specs.Prelude.{◌≡◌, ◌+◌, ◌^◌, ◌<◌, length
 ghost use Rattle.std.proofs.lemmas.List.Edits.{sets};
 ghost use Rattle.varint.specs.Groups.{groups, varint, read_groups, number_at};
 
-// What reads at a place: a number and the place after it, or none.
-#[derive(Clone, Copy)]
-pub enum Read {
-    Bad,
-    Number(u32, usize),
-}
-
-// The number that reads at a place, and the place after it. Bad where none does: the bytes end, the form is not the
+// The number that reads at a place, and the place after it. None where none does: the bytes end, the form is not the
 // shortest, or the number is not below 2^32.
-pub fn number(s: &[u8], at: usize) -> Read
+pub fn number(s: &[u8], at: usize) -> Option<(u32, usize)>
     ensures { result ≡ number_at s.now at }
 {
     read_groups(s, at, 4)
@@ -31,31 +24,27 @@ pub fn put(buf: &mut [u8], at: usize, n: u32) -> usize
 }
 
 // What reads in at most left + 1 groups.
-fn read_groups(s: &[u8], at: usize, left: u32) -> Read
+fn read_groups(s: &[u8], at: usize, left: u32) -> Option<(u32, usize)>
     ensures { result ≡ read_groups s.now left at }
 {
     if s.len() <= at {
-        return Read::Bad;
+        return None;
     }
     let b = s[at] as u32;
     if b < 128 {
-        return Read::Number(b, at + 1);
+        return Some((b, at + 1));
     }
     if left == 0 {
-        return Read::Bad;
+        return None;
     }
-    match read_groups(s, at + 1, left - 1) {
-        Read::Number(m, e) => {
-            if m == 0 {
-                return Read::Bad;
-            }
-            if 0x200_0000 <= m {
-                return Read::Bad;
-            }
-            Read::Number(m * 128 + (b - 128), e)
-        }
-        Read::Bad => Read::Bad,
+    let (m, e) = read_groups(s, at + 1, left - 1)?;
+    if m == 0 {
+        return None;
     }
+    if 0x200_0000 <= m {
+        return None;
+    }
+    Some((m * 128 + (b - 128), e))
 }
 
 // A number in at most left + 1 groups, from a place on.

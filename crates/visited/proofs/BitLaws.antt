@@ -7,8 +7,6 @@ use native.Mathlib.Nat.{div-eq_of_lt, div_self, max-zero, max-eq_right, one-mul,
 use native.Mathlib.Decide.{dec_lt, ℕ_discrete}
 use native.Mathlib.Numerals.{add-one}
 use native.Mathlib.Omega.{arith}
-use lib.Dec.{leb}
-use borrow.Author.Tests.{le-leb, lt-leb}
 use lib.ListN.{length, length-set, get_or-eq_default}
 use lib.Seq.{get_or-set_same, get_or-set_other, set_out}
 use lib.Pow.{pow_pos, pow-lt, pow-add, shl-shr, shl_exact}
@@ -74,14 +72,6 @@ insert_changes_no_other ws b j ne =
             rw (e, get_or-set_same ws (b / 32) _ 0 l, or_digit, digit_other (b % 32) (j % 32) n, max-zero)
         | no l ↦ ap (λ (vs : List ℕ). bit_at vs j) (inserted_past_end ws b (omega arith))
       ]
-    ]
-
--- enough words for n bits, as the code asks it
-pub room_in_words : (n l : ℕ) → leb (n / 32 + (n % 32 + 31) / 32) l ≡ leb n (l * 32)
-room_in_words n l =
-    elim (dec_lt (l * 32) n) [
-      | yes h ↦ lt-leb _ l (omega arith) ∙ sym (lt-leb n (l * 32) h)
-      | no h ↦ le-leb _ l (omega arith) ∙ sym (le-leb n (l * 32) (omega arith))
     ]
 
 -- a run as long as the map it is set in

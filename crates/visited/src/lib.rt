@@ -11,19 +11,15 @@ use lookups::WordNumber;
 pub fn has_room(map: &[u32], n: usize) -> bool
     ensures { result ≡ has_room map.now n }
 {
-    n / 32 + (n % 32 + 31) / 32 <= map.len()
+    n.div_ceil(32) <= map.len()
 }
 
 // Whether a Code word was visited. No number is refused: a word past the map's end was not.
 pub fn contains(map: &[u32], w: WordNumber) -> bool
     ensures { result ≡ visited_at map.now w.0 }
 {
-    let b = w.0;
-    let i = (b / 32) as usize;
-    if i < map.len() {
-        return (map[i] >> (b % 32)) % 2 == 1;
-    }
-    false
+    let i = (w.0 / 32) as usize;
+    i < map.len() && (map[i] >> (w.0 % 32)) % 2 == 1
 }
 
 // The map with a Code word visited and every other bit as it was; past the map's end nothing changes.
@@ -34,6 +30,7 @@ pub fn insert(map: &mut [u32], w: WordNumber)
 }
 
 // The map with k Code words in a row visited and every other bit as it was; past the map's end nothing changes.
+#[tactic(auto, using(crate::proofs::BitLaws::run_past_end, crate::proofs::BitLaws::run_one_more), unfolding(crate::specs::Bits::with_run))]
 pub fn mark_run(map: &mut [u32], from: WordNumber, k: u32)
     ensures { map.new ≡ with_run map.old from.0 k }
 {
@@ -41,11 +38,8 @@ pub fn mark_run(map: &mut [u32], from: WordNumber, k: u32)
     if map.len() <= b / 32 {
         return;
     }
-    let n = k as usize;
-    let mut j: usize = 0;
-    while j < n {
+    for j in 0..k as usize {
         set_bit(map, b + j);
-        j += 1;
     }
 }
 
@@ -54,11 +48,9 @@ pub fn clear(map: &mut [u32], n: usize)
     ensures { map.new ≡ cleared map.old n }
 {
     let mut left = n;
-    let mut i: usize = 0;
-    while i < map.len() {
-        map[i] = high_bits(map[i], left);
-        left = less_32(left);
-        i += 1;
+    for word in map {
+        *word = high_bits(*word, left);
+        left = left.saturating_sub(32);
     }
 }
 
@@ -68,11 +60,9 @@ pub fn count(map: &[u32], n: usize) -> usize
 {
     let mut left = n;
     let mut ones: usize = 0;
-    let mut i: usize = 0;
-    while i < map.len() {
-        ones += low_ones(map[i], left);
-        left = less_32(left);
-        i += 1;
+    for word in map {
+        ones += low_ones(*word, left);
+        left = left.saturating_sub(32);
     }
     ones
 }
@@ -83,7 +73,7 @@ fn set_bit(map: &mut [u32], b: usize)
     let i = b / 32;
     let k = (b % 32) as u32;
     if i < map.len() {
-        map[i] = map[i] | (1u32 << k);
+        map[i] |= 1u32 << k;
     }
 }
 
@@ -93,9 +83,10 @@ fn high_bits(x: u32, k: usize) -> u32
 {
     if k < 32 {
         let j = k as u32;
-        return (x >> j) << j;
+        (x >> j) << j
+    } else {
+        0
     }
-    0
 }
 
 // How many of a word's k lowest bits are set, of all its bits where k is 32 or more.
@@ -104,13 +95,8 @@ fn low_ones(x: u32, k: usize) -> usize
 {
     if k < 32 {
         let j = k as u32;
-        return u32::count_ones(x % (1u32 << j)) as usize;
+        (x % (1u32 << j)).count_ones() as usize
+    } else {
+        x.count_ones() as usize
     }
-    u32::count_ones(x) as usize
-}
-
-fn less_32(n: usize) -> usize
-    ensures { result ≡ n - 32 }
-{
-    if n < 32 { 0 } else { n - 32 }
 }

@@ -1,6 +1,5 @@
 -- The dedicated registers of a new state, which a loop over all registers has filled up to some place.
 -- Assumes nothing.
-use mathlib.Core.Path.{◌≡◌, refl}
 use mathlib.Core.Bool.{Bool, true, false, ◌||◌}
 use mathlib.Core.List.{List}
 use Prim.Native.Nat.{ℕ, zero, suc}
@@ -8,9 +7,7 @@ use lib.Dec.{eqb}
 use lib.ListN.{set, get_or, replicate}
 use Rattle.words.specs.Choice.{pick}
 use Rattle.vm.specs.declared.Gpr.{Gpr}
-use Rattle.vm.specs.declared.VM.{VM}
-use Rattle.vm.specs.Registers.{blank, direct, with_gprs}
-use Rattle.vm.specs.States.{fresh, keep_value}
+use Rattle.vm.specs.Registers.{blank, direct}
 
 abbrev pub asked : Bool → ℕ → Bool
 asked one i = pick (eqb i 1) one (eqb i 2 || eqb i 13)
@@ -23,7 +20,3 @@ kept_at false i from l = l
 abbrev pub kept_to : Bool → List Gpr → ℕ → List Gpr
 kept_to one from zero = replicate 32 blank
 kept_to one from (suc i) = kept_at (asked one i) i from (kept_to one from i)
-
-pub kept_all : (one : Bool) (s : VM) → with_gprs fresh (kept_to one s.gpr 32) ≡ keep_value (keep_value (pick one (keep_value fresh s 1) fresh) s 2) s 13
-kept_all true s = refl
-kept_all false s = refl

@@ -3,3 +3,4 @@ pub mod Values
 pub mod Lists
 pub mod Whole
 pub mod Dedicated
+pub mod Bounds

@@ -1,9 +1,7 @@
 -- A register's record and its place in a state.
 -- Assumes nothing; past register 31 a state reads as Unknown and keeps what it has.
-use Rattle.std.specs.Prelude.{ℕ, List, set, get_or, false}
+use Rattle.std.specs.Prelude.{ℕ, List, set, get_or, false, Option, Some, None}
 use Rattle.places.specs.declared.SectionAddress.{SectionAddress}
-use Rattle.places.specs.declared.MaybeAddress.{MaybeAddress}
-use Rattle.places.specs.declared.MaybeAddress.TheVariants.{Nowhere, At}
 use Rattle.vm.specs.declared.GprValue.{GprValue}
 use Rattle.vm.specs.declared.GprValue.TheVariants.{Unknown}
 use Rattle.vm.specs.declared.Gpr.{Gpr}
@@ -12,16 +10,16 @@ use Rattle.vm.specs.declared.VM.{VM}
 
 -- set_direct
 abbrev pub direct : GprValue → Gpr
-direct v = record { value = v; hi_addr = Nowhere; lo_addr = Nowhere }
+direct v = record { value = v; hi_addr = None; lo_addr = None }
 
 -- set_hi
 abbrev pub high : GprValue → SectionAddress → Gpr
-high v p = record { value = v; hi_addr = At p; lo_addr = Nowhere }
+high v p = record { value = v; hi_addr = Some p; lo_addr = None }
 
 -- the older place, if there is one
-abbrev pub or_at : MaybeAddress → SectionAddress → MaybeAddress
-or_at (At q) p = At q
-or_at Nowhere p = At p
+abbrev pub or_at : Option SectionAddress → SectionAddress → Option SectionAddress
+or_at (Some q) p = Some q
+or_at None p = Some p
 
 -- set_lo, by the register g that holds the high part
 abbrev pub low : GprValue → SectionAddress → Gpr → Gpr

@@ -1,6 +1,6 @@
 -- The rules on values, in the order of vm.rs, each under its assembly form.
 -- Assumes nothing. Numbers are words: sums are modulo 2^32.
-use Rattle.std.specs.Prelude.{ℕ, ◌+◌, ◌*◌, ◌%◌, ◌^◌, Bool, ◌&&◌, eqb, ltb}
+use Rattle.std.specs.Prelude.{ℕ, ◌+◌, ◌*◌, ◌%◌, ◌^◌, Bool, ◌&&◌, eqb, ltb, Option, Some, None}
 use Rattle.std.specs.Int.Bits.{bit_or, bit_and}
 use Rattle.words.specs.Choice.{pick}
 use Rattle.words.specs.Sums.{sum, complement_of}
@@ -9,13 +9,9 @@ use Rattle.places.specs.Places.{moved}
 use Rattle.places.specs.declared.SectionAddress.{SectionAddress}
 use Rattle.places.specs.declared.RelocationTarget.{RelocationTarget}
 use Rattle.places.specs.declared.RelocationTarget.TheVariants as target
-use Rattle.places.specs.declared.MaybeTarget.{MaybeTarget}
-use Rattle.places.specs.declared.MaybeTarget.TheVariants.{Missing, Known}
 use Rattle.vm.specs.declared.GprValue.{GprValue}
 use Rattle.vm.specs.declared.GprValue.TheVariants.{Unknown, Constant, Address, Range, LoadIndexed}
 use Rattle.vm.specs.declared.Gpr.{Gpr}
-use Rattle.vm.specs.declared.TableSize.{TableSize}
-use Rattle.vm.specs.declared.TableSize.TheVariants.{Guessed, Bytes}
 use Rattle.vm.specs.declared.BranchTarget.{BranchTarget}
 use Rattle.vm.specs.declared.BranchTarget.TheVariants as branch
 use Rattle.vm.specs.Values.{on_const, on_place, on_range}
@@ -74,41 +70,41 @@ abbrev pub rlwnm_of : GprValue → GprValue → ℕ → GprValue
 rlwnm_of value amount mask = on_const amount (λ shift. rotate_of value shift mask) Unknown
 
 -- b, bc, bcctr: the place reached, if it is one
-abbrev pub reached_of : MaybeTarget → BranchTarget
-reached_of (Known t) = branch.Address t
-reached_of Missing = branch.Unknown
+abbrev pub reached_of : Option RelocationTarget → BranchTarget
+reached_of (Some t) = branch.Address t
+reached_of None = branch.Unknown
 
 -- 0 is no size
-abbrev pub non_zero : ℕ → TableSize
-non_zero n = pick (eqb n 0) Guessed (Bytes n)
+abbrev pub non_zero : ℕ → Option ℕ
+non_zero n = pick (eqb n 0) None (Some n)
 
 -- a Range's max, if it is below 2^32 - 5 and a multiple of 4
-abbrev pub max_offset_of : GprValue → TableSize
-max_offset_of index = on_range index (λ lo hi st. pick ((ltb hi 4294967291) && (eqb (hi % 4) 0)) (non_zero hi) Guessed) Guessed
+abbrev pub max_offset_of : GprValue → Option ℕ
+max_offset_of index = on_range index (λ lo hi st. pick ((ltb hi 4294967291) && (eqb (hi % 4) 0)) (non_zero hi) None) None
 
 -- lwzx rD, rA, rB: by the place in rA and the index in rB
-abbrev pub lwzx_of : MaybeTarget → GprValue → GprValue
-lwzx_of (Known t) index = LoadIndexed t (max_offset_of index)
-lwzx_of Missing index = Unknown
+abbrev pub lwzx_of : Option RelocationTarget → GprValue → GprValue
+lwzx_of (Some t) index = LoadIndexed t (max_offset_of index)
+lwzx_of None index = Unknown
 
 -- bctr: 4 more than the largest offset, if that is below 2^32
-abbrev pub size_of : TableSize → TableSize
-size_of (Bytes n) = pick (ltb n 4294967292) (Bytes (n + 4)) Guessed
-size_of Guessed = Guessed
+abbrev pub size_of : Option ℕ → Option ℕ
+size_of (Some n) = pick (ltb n 4294967292) (Some (n + 4)) None
+size_of None = None
 
 -- the place that a value is: an Address itself, a Constant by what finds its section
-abbrev pub address_of : (ℕ → MaybeTarget) → GprValue → MaybeTarget
-address_of find v = on_place v find Known Missing
+abbrev pub address_of : (ℕ → Option RelocationTarget) → GprValue → Option RelocationTarget
+address_of find v = on_place v find Some None
 
 -- what a displacement load or store reaches: an Address base itself, a Constant base plus the displacement
-abbrev pub seen_of : (ℕ → MaybeTarget) → GprValue → ℕ → MaybeTarget
+abbrev pub seen_of : (ℕ → Option RelocationTarget) → GprValue → ℕ → Option RelocationTarget
 seen_of find base simm = address_of (λ a. find (sum a simm)) base
 
 -- the base register after an update form: a Constant base that reached nothing stays
-abbrev pub updated_of : Gpr → MaybeTarget → SectionAddress → Gpr
-updated_of g (Known t) p = low (Address t) p g
-updated_of g Missing p = on_const g.value (λ a. g) (direct Unknown)
+abbrev pub updated_of : Gpr → Option RelocationTarget → SectionAddress → Gpr
+updated_of g (Some t) p = low (Address t) p g
+updated_of g None p = on_const g.value (λ a. g) (direct Unknown)
 
 -- the base register after any displacement load or store
-abbrev pub base_of : Gpr → Bool → MaybeTarget → SectionAddress → Gpr
+abbrev pub base_of : Gpr → Bool → Option RelocationTarget → SectionAddress → Gpr
 base_of g update seen p = pick update (updated_of g seen p) g

@@ -9,6 +9,14 @@ use Rattle.vm.specs.declared.Cr.{Cr}
 use Rattle.vm.specs.declared.Split.{Split}
 use Rattle.vm.specs.Values.{on_const, on_range}
 
+-- a value that is at most n
+abbrev pub at_most_of : GprValue → ℕ → GprValue
+at_most_of v n = on_range v (λ lo hi st. Range (min lo n) (min hi n) st) (Range 0 n 1)
+
+-- a value that is at least n
+abbrev pub at_least_of : GprValue → ℕ → GprValue
+at_least_of v n = on_range v (λ lo hi st. Range (max lo n) (max hi n) st) (Range n 4294967295 1)
+
 abbrev pub both_of : GprValue → Split
 both_of v = record { fails = v; holds = v }
 

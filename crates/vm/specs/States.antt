@@ -1,13 +1,11 @@
 -- States: new ones, those of the two sides of a call, and changes to all registers.
 -- Assumes nothing.
-use Rattle.std.specs.Prelude.{ℕ, ◌++◌, map, take, drop, replicate, eqb}
+use Rattle.std.specs.Prelude.{ℕ, ◌++◌, map, take, drop, replicate, eqb, Option, Some, None}
 use Rattle.words.specs.Choice.{pick}
 use Rattle.vm.specs.declared.GprValue.{GprValue}
 use Rattle.vm.specs.declared.GprValue.TheVariants.{Unknown, Constant}
 use Rattle.vm.specs.declared.Gpr.{Gpr}
 use Rattle.vm.specs.declared.VM.{VM}
-use Rattle.vm.specs.declared.MaybeBase.{MaybeBase}
-use Rattle.vm.specs.declared.MaybeBase.TheVariants.{Unset, Value}
 use Rattle.vm.specs.Values.{on_mark}
 use Rattle.vm.specs.Registers.{direct, blank, marked, reg, with_gprs, with_reg, no_cr}
 
@@ -15,12 +13,12 @@ use Rattle.vm.specs.Registers.{direct, blank, marked, reg, with_gprs, with_reg, 
 abbrev pub fresh : VM
 fresh = record { gpr = replicate 32 blank; cr = replicate 8 no_cr; lr = record { value = Unknown }; ctr = record { value = Unknown } }
 
-abbrev pub with_base : VM → ℕ → MaybeBase → VM
-with_base s i (Value n) = with_reg s i (direct (Constant n))
-with_base s i Unset = s
+abbrev pub with_base : VM → ℕ → Option ℕ → VM
+with_base s i (Some n) = with_reg s i (direct (Constant n))
+with_base s i None = s
 
 -- new_with_base: r2, r13
-abbrev pub bases_of : MaybeBase → MaybeBase → VM
+abbrev pub bases_of : Option ℕ → Option ℕ → VM
 bases_of two thirteen = with_base (with_base fresh 2 two) 13 thirteen
 
 -- register i's value, without its places

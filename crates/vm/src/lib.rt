@@ -7,14 +7,7 @@ pub mod rule;
 pub mod splits;
 pub mod state;
 
-use places::{MaybeAddress, RelocationTarget};
-
-// The largest offset into a table, or its size in bytes, where it is known.
-#[derive(Clone, Copy)]
-pub enum TableSize {
-    Guessed,
-    Bytes(u32),
-}
+use places::{RelocationTarget, SectionAddress};
 
 // What is known of a register's value.
 #[derive(Clone, Copy)]
@@ -33,7 +26,8 @@ pub enum GprValue {
     // A word of the table at an address (a jump table).
     LoadIndexed {
         address: RelocationTarget,
-        max_offset: TableSize,
+        // The largest offset, where it is known.
+        max_offset: Option<u32>,
     },
 }
 
@@ -41,8 +35,8 @@ pub enum GprValue {
 pub struct Gpr {
     pub value: GprValue,
     // The words that load the high and the low part of the value.
-    pub hi_addr: MaybeAddress,
-    pub lo_addr: MaybeAddress,
+    pub hi_addr: Option<SectionAddress>,
+    pub lo_addr: Option<SectionAddress>,
 }
 
 // A compare: both sides, and whether it was signed.
@@ -76,15 +70,9 @@ pub enum BranchTarget {
     Address(RelocationTarget),
     JumpTable {
         address: RelocationTarget,
-        size: TableSize,
+        // In bytes, where it is known.
+        size: Option<u32>,
     },
-}
-
-// A number for r2 or r13 in a new state, or none.
-#[derive(Clone, Copy)]
-pub enum MaybeBase {
-    Unset,
-    Value(u32),
 }
 
 // What a conditional branch tells of the compared register: where its bit is false, and where it is true.

@@ -4,15 +4,15 @@ ghost use Rattle.std.specs.Prelude.{◌≡◌};
 ghost use Rattle.vm.specs.Registers.{direct, high, low, marked};
 
 use crate::{Gpr, GprValue};
-use places::{MaybeAddress, SectionAddress};
+use places::SectionAddress;
 
 pub fn set_direct(value: GprValue) -> Gpr
     ensures { result ≡ direct value }
 {
     Gpr {
-        value: value,
-        hi_addr: MaybeAddress::Nowhere,
-        lo_addr: MaybeAddress::Nowhere,
+        value,
+        hi_addr: None,
+        lo_addr: None,
     }
 }
 
@@ -20,9 +20,9 @@ pub fn set_hi(value: GprValue, addr: SectionAddress) -> Gpr
     ensures { result ≡ high value addr }
 {
     Gpr {
-        value: value,
-        hi_addr: MaybeAddress::At(addr),
-        lo_addr: MaybeAddress::Nowhere,
+        value,
+        hi_addr: Some(addr),
+        lo_addr: None,
     }
 }
 
@@ -33,15 +33,15 @@ pub fn set_lo(value: GprValue, addr: SectionAddress, hi_gpr: Gpr) -> Gpr
     let hi = hi_gpr.hi_addr;
     let lo = hi_gpr.lo_addr;
     match lo {
-        MaybeAddress::At(_) => Gpr {
-            value: value,
+        Some(_) => Gpr {
+            value,
             hi_addr: hi,
             lo_addr: lo,
         },
-        MaybeAddress::Nowhere => Gpr {
-            value: value,
+        None => Gpr {
+            value,
             hi_addr: hi,
-            lo_addr: MaybeAddress::At(addr),
+            lo_addr: Some(addr),
         },
     }
 }
@@ -50,11 +50,5 @@ pub fn set_lo(value: GprValue, addr: SectionAddress, hi_gpr: Gpr) -> Gpr
 pub fn with_value(g: Gpr, value: GprValue) -> Gpr
     ensures { result ≡ marked g value }
 {
-    let hi = g.hi_addr;
-    let lo = g.lo_addr;
-    Gpr {
-        value: value,
-        hi_addr: hi,
-        lo_addr: lo,
-    }
+    Gpr { value, ..g }
 }

@@ -1,21 +1,45 @@
 // The split rule: what the two sides of a conditional branch know of the compared register.
 // Whether the compare was signed plays no part, as in vm.rs.
-ghost use Rattle.std.specs.Prelude.{◌≡◌, min, max};
-ghost use Rattle.vm.specs.Splits.{both_of, lt_of, gt_of, eq_of, split_of};
+ghost use Rattle.std.specs.Prelude.{◌≡◌};
+ghost use Rattle.vm.specs.Splits.{at_most_of, at_least_of, both_of, lt_of, gt_of, eq_of, split_of};
 
 use crate::{Cr, GprValue, Split};
 use words::sum::{wrapping_add, wrapping_sub};
 
-fn least(a: u32, b: u32) -> u32
-    ensures { result ≡ min a b }
+// What is known of a value that is at most n: a Range's ends are lowered to n.
+fn at_most(value: GprValue, n: u32) -> GprValue
+    ensures { result ≡ at_most_of value n }
 {
-    if a <= b { a } else { b }
+    match value {
+        GprValue::Range { min, max, step } => GprValue::Range {
+            min: min.min(n),
+            max: max.min(n),
+            step,
+        },
+        _ => GprValue::Range {
+            min: 0,
+            max: n,
+            step: 1,
+        },
+    }
 }
 
-fn most(a: u32, b: u32) -> u32
-    ensures { result ≡ max a b }
+// What is known of a value that is at least n: a Range's ends are raised to n.
+fn at_least(value: GprValue, n: u32) -> GprValue
+    ensures { result ≡ at_least_of value n }
 {
-    if a <= b { b } else { a }
+    match value {
+        GprValue::Range { min, max, step } => GprValue::Range {
+            min: min.max(n),
+            max: max.max(n),
+            step,
+        },
+        _ => GprValue::Range {
+            min: n,
+            max: u32::MAX,
+            step: 1,
+        },
+    }
 }
 
 fn both(v: GprValue) -> Split
@@ -24,76 +48,28 @@ fn both(v: GprValue) -> Split
     Split { fails: v, holds: v }
 }
 
+#[tactic(auto, using(crate::proofs::Bounds::lt_sides))]
 fn lt(left: GprValue, right: GprValue) -> Split
     ensures { result ≡ lt_of left right }
 {
     match right {
-        GprValue::Constant(v) => {
-            let below = wrapping_sub(v, 1);
-            match left {
-                GprValue::Range { min, max, step } => Split {
-                    fails: GprValue::Range {
-                        min: most(min, v),
-                        max: most(max, v),
-                        step: step,
-                    },
-                    holds: GprValue::Range {
-                        min: least(min, below),
-                        max: least(max, below),
-                        step: step,
-                    },
-                },
-                _ => Split {
-                    fails: GprValue::Range {
-                        min: v,
-                        max: 4294967295,
-                        step: 1,
-                    },
-                    holds: GprValue::Range {
-                        min: 0,
-                        max: below,
-                        step: 1,
-                    },
-                },
-            }
-        }
+        GprValue::Constant(v) => Split {
+            fails: at_least(left, v),
+            holds: at_most(left, wrapping_sub(v, 1)),
+        },
         _ => both(left),
     }
 }
 
+#[tactic(auto, using(crate::proofs::Bounds::gt_sides))]
 fn gt(left: GprValue, right: GprValue) -> Split
     ensures { result ≡ gt_of left right }
 {
     match right {
-        GprValue::Constant(v) => {
-            let above = wrapping_add(v, 1);
-            match left {
-                GprValue::Range { min, max, step } => Split {
-                    fails: GprValue::Range {
-                        min: least(min, v),
-                        max: least(max, v),
-                        step: step,
-                    },
-                    holds: GprValue::Range {
-                        min: most(min, above),
-                        max: most(max, above),
-                        step: step,
-                    },
-                },
-                _ => Split {
-                    fails: GprValue::Range {
-                        min: 0,
-                        max: v,
-                        step: 1,
-                    },
-                    holds: GprValue::Range {
-                        min: above,
-                        max: 4294967295,
-                        step: 1,
-                    },
-                },
-            }
-        }
+        GprValue::Constant(v) => Split {
+            fails: at_most(left, v),
+            holds: at_least(left, wrapping_add(v, 1)),
+        },
         _ => both(left),
     }
 }
@@ -101,31 +77,21 @@ fn gt(left: GprValue, right: GprValue) -> Split
 fn eq(left: GprValue, right: GprValue) -> Split
     ensures { result ≡ eq_of left right }
 {
-    match right {
-        GprValue::Constant(v) => match left {
-            GprValue::Constant(u) => {
-                if u == v {
-                    Split {
-                        fails: GprValue::Unknown,
-                        holds: right,
-                    }
-                } else {
-                    Split {
-                        fails: left,
-                        holds: right,
-                    }
-                }
-            }
-            _ => Split {
-                fails: left,
-                holds: right,
-            },
+    match (left, right) {
+        (GprValue::Constant(u), GprValue::Constant(v)) if u == v => Split {
+            fails: GprValue::Unknown,
+            holds: right,
+        },
+        (_, GprValue::Constant(_)) => Split {
+            fails: left,
+            holds: right,
         },
         _ => both(left),
     }
 }
 
 // By the bit of the field: 0 lt, 1 gt, 2 eq, else so.
+#[tactic(auto, unfolding(crate::specs::Splits::split_of))]
 pub fn split_values_by_crb(crb: u32, cr: Cr) -> Split
     ensures { result ≡ split_of crb cr }
 {

@@ -5,8 +5,8 @@ ghost use Rattle.words.specs.Choice.{pick};
 ghost use Rattle.vm.specs.Values.{on_mark};
 ghost use Rattle.vm.specs.States.{fresh, bases_of, with_base, keep_value, link_of, saved_from, return_of, with_result};
 
-use crate::register::{set_direct, with_value};
-use crate::{Cr, Gpr, GprValue, Held, MaybeBase, VM};
+use crate::register::set_direct;
+use crate::{Cr, Gpr, GprValue, Held, VM};
 
 // All Unknown.
 pub fn new() -> VM
@@ -31,22 +31,22 @@ pub fn new() -> VM
     }
 }
 
-fn with_base(t: VM, i: usize, base: MaybeBase) -> VM
+fn with_base(t: VM, i: usize, base: Option<u32>) -> VM
     requires { i < 32 }
     ensures { result ≡ with_base t i base }
 {
     let mut u = t;
     match base {
-        MaybeBase::Value(n) => {
+        Some(n) => {
             u.gpr[i] = set_direct(GprValue::Constant(n));
             u
         }
-        MaybeBase::Unset => u,
+        None => u,
     }
 }
 
 // All Unknown but r2 and r13, where a number is given.
-pub fn new_with_base(sda2_base: MaybeBase, sda_base: MaybeBase) -> VM
+pub fn new_with_base(sda2_base: Option<u32>, sda_base: Option<u32>) -> VM
     ensures { result ≡ bases_of sda2_base sda_base }
 {
     with_base(with_base(new(), 2, sda2_base), 13, sda_base)
@@ -65,15 +65,9 @@ fn dedicated(s: VM, one: bool) -> VM
     ensures { result ≡ keep_value (keep_value (pick one (keep_value fresh s 1) fresh) s 2) s 13 }
 {
     let mut t = new();
-    let mut i: usize = 0;
-    while i < 32 {
-        let k = i;
-        i = i + 1;
-        if is_dedicated(k, one) {
-            let g = s.gpr[k];
-            let v = g.value;
-            t.gpr[k] = set_direct(v);
-            continue;
+    for i in 0..32 {
+        if is_dedicated(i, one) {
+            t.gpr[i] = set_direct(s.gpr[i].value);
         }
     }
     t
@@ -91,11 +85,7 @@ fn copy_saved(t: VM, s: VM) -> VM
     ensures { result ≡ saved_from t s }
 {
     let mut u = t;
-    let mut i: usize = 14;
-    while i < 32 {
-        u.gpr[i] = s.gpr[i];
-        i = i + 1;
-    }
+    u.gpr[14..].copy_from_slice(&s.gpr[14..]);
     u
 }
 
@@ -110,11 +100,7 @@ pub fn clone_for_return(s: VM) -> VM
 fn is_marked(g: Gpr, crf: u8) -> bool
     ensures { result ≡ on_mark g.value (λ j. eqb j crf) false }
 {
-    let w = g.value;
-    match w {
-        GprValue::ComparisonResult(j) => j == crf,
-        _ => false,
-    }
+    matches!(g.value, GprValue::ComparisonResult(j) if j == crf)
 }
 
 // Every register marked with the field gets the value, its places kept.
@@ -122,14 +108,9 @@ pub fn set_comparison_result(s: VM, value: GprValue, crf: u8) -> VM
     ensures { result ≡ with_result s value crf }
 {
     let mut t = s;
-    let mut i: usize = 0;
-    while i < 32 {
-        let g = t.gpr[i];
-        let k = i;
-        i = i + 1;
-        if is_marked(g, crf) {
-            t.gpr[k] = with_value(g, value);
-            continue;
+    for g in t.gpr.iter_mut() {
+        if is_marked(*g, crf) {
+            g.value = value;
         }
     }
     t

@@ -8,11 +8,10 @@ use native.Mathlib.Omega.{arith}
 use native.Mathlib.Nat.{mul-le-mul}
 use lib.ListN.{length}
 use borrow.Author.Tests.{not-true}
+use Rattle.std.specs.Prelude.{Some, None, Option}
 use Rattle.words.specs.Choice.{pick}
 use Rattle.search.proofs.EveryLaws.{and_left, and_right}
 use Rattle.places.specs.declared.SectionAddress.{SectionAddress}
-use Rattle.places.specs.declared.MaybeAddress.{MaybeAddress}
-use Rattle.places.specs.declared.MaybeAddress.TheVariants.{Nowhere, At}
 use Rattle.image.specs.Numbers.{max_code_words}
 use Rattle.image.specs.Rules.{code_words, sound}
 use Rattle.image.proofs.SoundTables.{sound_tables, tables_of_sound}
@@ -40,7 +39,7 @@ use Rattle.walk.proofs.Jumps.{Asks, leaver_asks}
 
 -- the measure of a block's loop
 abbrev pub left_at : List ℕ → List ℕ → SectionAddress → VM → List ℕ → ℕ
-left_at ws bs p s v = left_in (ground_of ws bs p Nowhere 0) (busy p s) v
+left_at ws bs p s v = left_in (ground_of ws bs p None 0) (busy p s) v
 
 at_most : (t : Bool) (x y m : ℕ) → x ≤ m → y ≤ m → pick t x y ≤ m
 at_most true x y m a b = a
@@ -62,7 +61,7 @@ left_few ws bs few p s v =
 
 -- where the loop stands: at the word p, n words stepped and b blocks begun since the word p₀
 pub record Within (ws bs : List ℕ) (p₀ : SectionAddress) (s₀ : VM) (v₀ : List ℕ) (p : SectionAddress) (t : VM) (v : List ℕ) (n b : ℕ) : Type 0 where
-  pub line : (from : SectionAddress) (upto : MaybeAddress) (slots : ℕ) → Going (ground_of ws bs from upto slots) p₀ s₀ v₀ p t v n b
+  pub line : (from : SectionAddress) (upto : Option SectionAddress) (slots : ℕ) → Going (ground_of ws bs from upto slots) p₀ s₀ v₀ p t v n b
   pub word : is_fine (code_place ws p) ≡ true
   pub few : n ≤ b * max_code_words
   pub fewer : b + left_at ws bs p t v ≤ left_at ws bs p₀ s₀ v₀
@@ -86,7 +85,7 @@ module _ {ws bs : List ℕ} (fine : sound ws (length bs) ≡ true) {p₀ : Secti
   few_words = (sound_tables ws (tables_of_sound ws (length bs) fine)).few_code_words_lem
 
   block_bits : code_words ws ≤ length v * 32
-  block_bits = omega (arith, bits, (h.line p Nowhere 0).map_length)
+  block_bits = omega (arith, bits, (h.line p None 0).map_length)
 
   -- the counts fit
   pub block_few : (b ≤ most_left) × (n ≤ most_left * max_code_words)
@@ -102,23 +101,23 @@ module _ {ws bs : List ℕ} (fine : sound ws (length bs) ≡ true) {p₀ : Secti
     abbrev pub run_map : List ℕ
     run_map = with_run v (word_number ws p) many
 
-    ran : (from : SectionAddress) (upto : MaybeAddress) (slots : ℕ) → Ran (ground_of ws bs from upto slots) p t v r
+    ran : (from : SectionAddress) (upto : Option SectionAddress) (slots : ℕ) → Ran (ground_of ws bs from upto slots) p t v r
     ran from upto slots = subst (λ (x : Stopped). Ran (ground_of ws bs from upto slots) p t v x) (sym e) (straight_run ws bs from upto slots fine p h.word t v block_bits)
 
-    many_is : (from : SectionAddress) (upto : MaybeAddress) (slots : ℕ) → (ran from upto slots).many ≡ many
+    many_is : (from : SectionAddress) (upto : Option SectionAddress) (slots : ℕ) → (ran from upto slots).many ≡ many
     many_is from upto slots = omega (arith, (ran from upto slots).address_is)
 
     pub run_ahead : p.address ≤ r.at.address
-    run_ahead = omega (arith, (ran p Nowhere 0).address_is)
+    run_ahead = omega (arith, (ran p None 0).address_is)
 
-    run_line : (from : SectionAddress) (upto : MaybeAddress) (slots : ℕ) → Going (ground_of ws bs from upto slots) p₀ s₀ v₀ r.at r.vm run_map (n + many) b
+    run_line : (from : SectionAddress) (upto : Option SectionAddress) (slots : ℕ) → Going (ground_of ws bs from upto slots) p₀ s₀ v₀ r.at r.vm run_map (n + many) b
     run_line from upto slots =
         let none : b + 0 ≡ b = omega arith in
         rw (many_is from upto slots, none) at (going_then (ground_of ws bs from upto slots) (h.line from upto slots) (ran from upto slots).line)
 
     -- the section's end
-    pub block_past : is_ended r.leave ≡ true → (from : SectionAddress) (upto : MaybeAddress) (slots : ℕ)
-        → Block (ground_of ws bs from upto slots) p₀ s₀ v₀ (record { leaves = false; last = r; stepped = n + many; begun = b }) run_map
+    pub block_past : is_ended r.leave ≡ true → (from : SectionAddress) (upto : Option SectionAddress) (slots : ℕ)
+        → Block (ground_of ws bs from upto slots) p₀ s₀ v₀ (record { leave = None; at = r.at; vm = r.vm; stepped = n + many; begun = b }) run_map
     block_past w from upto slots = record {
       many = n + many;
       map = run_map;
@@ -132,42 +131,42 @@ module _ {ws bs : List ℕ} (fine : sound ws (length bs) ≡ true) {p₀ : Secti
       leave_map = with_run v (word_number ws p) (many + 1)
 
       leaver : is_fine (code_place ws r.at) ≡ true
-      leaver = (ran p Nowhere 0).word ∙ ap not w
+      leaver = (ran p None 0).word ∙ ap not w
 
-      marked : (from : SectionAddress) (upto : MaybeAddress) (slots : ℕ) → leave_map ≡ with_bit run_map (word_number ws r.at)
+      marked : (from : SectionAddress) (upto : Option SectionAddress) (slots : ℕ) → leave_map ≡ with_bit run_map (word_number ws r.at)
       marked from upto slots = rw (← many_is from upto slots) (sym (marks_leaver (ground_of ws bs from upto slots) p t v r (ran from upto slots)))
 
       run_few : many + 1 ≤ max_code_words
       run_few =
-          omega (arith, few_words, (image_lawful ws bs p Nowhere 0 fine).below r.at leaver, (ran p Nowhere 0).number_is, many_is p Nowhere 0)
+          omega (arith, few_words, (image_lawful ws bs p None 0 fine).below r.at leaver, (ran p None 0).number_is, many_is p None 0)
 
-      moves : (from : SectionAddress) (upto : MaybeAddress) (slots : ℕ) → move_at ws bs r.at r.vm ≡ leaving r.leave r.at r.vm
+      moves : (from : SectionAddress) (upto : Option SectionAddress) (slots : ℕ) → move_at ws bs r.at r.vm ≡ leaving r.leave r.at r.vm
       moves from upto slots = (ran from upto slots).asks w
 
       -- it leaves by ways
-      pub block_leaves : jump_in r.leave r.at.section ≡ Nowhere → (from : SectionAddress) (upto : MaybeAddress) (slots : ℕ)
-          → Block (ground_of ws bs from upto slots) p₀ s₀ v₀ (record { leaves = true; last = r; stepped = n + many + 1; begun = b }) leave_map
+      pub block_leaves : jump_in r.leave r.at.section ≡ None → (from : SectionAddress) (upto : Option SectionAddress) (slots : ℕ)
+          → Block (ground_of ws bs from upto slots) p₀ s₀ v₀ (record { leave = Some r.leave; at = r.at; vm = r.vm; stepped = n + many + 1; begun = b }) leave_map
       block_leaves j from upto slots =
-          let a : Asks Nowhere (leaving r.leave r.at r.vm) r.vm = rw j at (leaver_asks r.at r.vm r.leave) in
+          let a : Asks None (leaving r.leave r.at r.vm) r.vm = rw j at (leaver_asks r.at r.vm r.leave) in
           record {
             many = n + many;
             map = run_map;
             line = run_line from upto slots;
-            ends = leaves_by a.0 leaver (moves from upto slots ∙ a.1) a.1 refl refl (marked from upto slots);
+            ends = leaves_by r.leave a.0 leaver (moves from upto slots ∙ a.1) a.1 refl refl (marked from upto slots);
           }
 
       -- it jumps inside the section
-      module _ {q : SectionAddress} (j : jump_in r.leave r.at.section ≡ At q) where
+      module _ {q : SectionAddress} (j : jump_in r.leave r.at.section ≡ Some q) where
         jumps : move_at ws bs r.at r.vm ≡ jump q r.vm
-        jumps = moves p Nowhere 0 ∙ (rw j at (leaver_asks r.at r.vm r.leave))
+        jumps = moves p None 0 ∙ (rw j at (leaver_asks r.at r.vm r.leave))
 
         -- to no word of code, or to a visited one
-        pub block_stays : is_fine (code_place ws q) && not (visited_at leave_map (word_number ws q)) ≡ false → (from : SectionAddress) (upto : MaybeAddress) (slots : ℕ)
-            → Block (ground_of ws bs from upto slots) p₀ s₀ v₀ (record { leaves = false; last = r; stepped = n + many + 1; begun = b }) leave_map
+        pub block_stays : is_fine (code_place ws q) && not (visited_at leave_map (word_number ws q)) ≡ false → (from : SectionAddress) (upto : Option SectionAddress) (slots : ℕ)
+            → Block (ground_of ws bs from upto slots) p₀ s₀ v₀ (record { leave = None; at = r.at; vm = r.vm; stepped = n + many + 1; begun = b }) leave_map
         block_stays o from upto slots = by (is_fine (code_place ws q)) refl (visited_at leave_map (word_number ws q)) refl
           where
             by : (x : Bool) → is_fine (code_place ws q) ≡ x → (y : Bool) → visited_at leave_map (word_number ws q) ≡ y
-                → Block (ground_of ws bs from upto slots) p₀ s₀ v₀ (record { leaves = false; last = r; stepped = n + many + 1; begun = b }) leave_map
+                → Block (ground_of ws bs from upto slots) p₀ s₀ v₀ (record { leave = None; at = r.at; vm = r.vm; stepped = n + many + 1; begun = b }) leave_map
             by false f y g = record {
               many = n + many;
               map = run_map;
@@ -192,10 +191,10 @@ module _ {ws bs : List ℕ} (fine : sound ws (length bs) ≡ true) {p₀ : Secti
 
           pub block_falls : left_at ws bs q r.vm leave_map < left_at ws bs p t v
           block_falls =
-              rw (marked p Nowhere 0)
-              (jump_falls (ground_of ws bs p Nowhere 0) (image_lawful ws bs p Nowhere 0 fine) block_bits (run_only p Nowhere 0) leaver q r.vm x (rw (← marked p Nowhere 0) y))
+              rw (marked p None 0)
+              (jump_falls (ground_of ws bs p None 0) (image_lawful ws bs p None 0 fine) block_bits (run_only p None 0) leaver q r.vm x (rw (← marked p None 0) y))
             where
-              run_only : (from : SectionAddress) (upto : MaybeAddress) (slots : ℕ) → Going (ground_of ws bs from upto slots) p t v r.at r.vm run_map many 0
+              run_only : (from : SectionAddress) (upto : Option SectionAddress) (slots : ℕ) → Going (ground_of ws bs from upto slots) p t v r.at r.vm run_map many 0
               run_only from upto slots = rw (← many_is from upto slots) (ran from upto slots).line
 
           pub block_jumps : Within ws bs p₀ s₀ v₀ q r.vm leave_map (n + many + 1) (b + 1)

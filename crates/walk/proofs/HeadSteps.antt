@@ -2,21 +2,21 @@
 -- ends the answer. Assumes that nothing is refused.
 use Prim.Native.Nat.{ℕ, ◌+◌, ◌-◌, ◌*◌, ◌≤◌, ◌<◌}
 use mathlib.Core.Path.{◌≡◌, sym, ◌∙◌}
-use mathlib.Core.Bool.{Bool, true, false, true≢false}
+use mathlib.Core.Bool.{Bool, true, false}
 use mathlib.Core.List.{List}
 use native.Mathlib.Omega.{arith}
 use lib.ListN.{length}
+use Rattle.std.specs.Prelude.{Some, None, Result, Ok, Err, Option}
 use Rattle.places.specs.declared.SectionAddress.{SectionAddress}
-use Rattle.places.specs.declared.MaybeAddress.{MaybeAddress}
 use Rattle.image.specs.Numbers.{max_code_words}
 use Rattle.image.specs.Rules.{code_words, sound}
 use Rattle.lookups.specs.Code.{code_place, word_number}
-use Rattle.vm.specs.declared.MaybeBase.{MaybeBase}
 use Rattle.vm.specs.States.{bases_of}
+use Rattle.step.specs.declared.Leave.{Leave}
 use Rattle.stack.specs.Stack.{Stack, entries, held_at, room}
 use Rattle.stack.proofs.Stacks.{pop_entries, pop_stack}
 use Rattle.visited.specs.Bits.{visited_at}
-use Rattle.turns.specs.declared.WalkAnswer.TheVariants as answer
+use Rattle.turns.specs.declared.WalkError.{WalkError}
 use Rattle.turns.specs.Grounds.{idle, conf}
 use Rattle.turns.specs.Moves.{Lent, is_fine, ground_of}
 use Rattle.turns.specs.Walks.{Given, given, ground_in, judged, refused_with, walked}
@@ -31,15 +31,20 @@ use Rattle.turns.proofs.HeadLaws.{head_fits, head_full, head_empty, head_pop_old
 use Rattle.pushes.specs.declared.Taken.{Taken}
 use Rattle.pushes.specs.Takes.{TakenWays}
 use Rattle.walk.specs.declared.Begun.{Begun}
-use Rattle.walk.specs.Starts.{places_of, is_done, Begins}
-use Rattle.walk.specs.Blocks.{Last, past, jumps_out, jumps_old, leaves_by, Block, Ending}
-use Rattle.walk.proofs.StartLaws.{refused_is, judged_fine}
+use Rattle.walk.specs.Starts.{places_of, Begins}
+use Rattle.walk.specs.Blocks.{Last, past, jumps_out, jumps_old, leaves_by, Block, Ending, Followed, stays, goes}
+
+some_not_none : {A : Type 0} (l : Leave) → Some l ≡ None → A
+some_not_none l e = let z : ◌≡◌ {A = ℕ} 0 1 = cc in absurd (omega arith)
+
+same_leave : (l m : Leave) → Some l ≡ Some m → l ≡ m
+same_leave l m e = cc
 
 -- counts far below 2^64
 abbrev Fit : ℕ → ℕ → ℕ → ℕ → Type 0
 Fit a b c d = (a ≤ max_code_words * max_code_words) × (b ≤ max_code_words) × (c + d ≤ 2 * (max_code_words * max_code_words))
 
-module _ (i : Given) (vis : List ℕ) (lent : Lent) (fine : judged i vis ≡ answer.Done) where
+module _ (i : Given) (vis : List ℕ) (lent : Lent) (fine : judged i vis ≡ Ok tt) where
   module _ {words : List ℕ} {k : ℕ} {buffer : List ℕ} {full : Bool} {v : List ℕ} {a b c d : ℕ} (h : Head i vis lent words k buffer full v a b c d) where
     stands : Sound (ground_in i lent) (length vis) (conf idle (pile_in words k buffer full h.log) v)
     stands =
@@ -76,43 +81,53 @@ module _ (i : Given) (vis : List ℕ) (lent : Lent) (fine : judged i vis ≡ ans
       carried = omega arith
 
       -- its block ended with nothing to push
-      pub turn_idle : r.leaves ≡ false
+      turn_idle : r.leave ≡ None
           → Head i vis lent words (k - 1) buffer false v' (a + r.stepped) (b + 1 + r.begun) c d × (head_left i lent (k - 1) v' < head_left i lent k v)
       turn_idle o = by block.ends
         where
-          by : Last (ground_in i lent) r.last.at r.last.vm block.map block.many r v'
+          by : Last (ground_in i lent) r.at r.vm block.map block.many r v'
               → Head i vis lent words (k - 1) buffer false v' (a + r.stepped) (b + 1 + r.begun) c d × (head_left i lent (k - 1) v' < head_left i lent k v)
           by (past w l s m) = rw (m, s) (head_past i vis lent fine h (k - 1) one new block.line w)
           by (jumps_out {x} {y} w e o l s m) = rw (m, s, carried) (head_jump_out i vis lent fine h (k - 1) one new block.line w x y e o)
           by (jumps_old {x} {y} w e o t l s m) = rw (m, s, carried) (head_jump_old i vis lent fine h (k - 1) one new block.line w x y e o t)
-          by (leaves_by ys w e f l s m) = absurd (true≢false (sym l ∙ o))
+          by (leaves_by l ys w e f q s m) = some_not_none l (sym q ∙ o)
 
       -- its block's last word leaves, and its ways were taken
-      pub turn_takes : r.leaves ≡ true → {words' buffer' : List ℕ} {t : Taken}
-          → TakenWays i.tables i.bytes i.from i.upto words (k - 1) buffer r.last.at r.last.leave r.last.vm words' buffer' t
+      turn_takes : (l : Leave) → r.leave ≡ Some l → {words' buffer' : List ℕ} {t : Taken}
+          → TakenWays i.tables i.bytes i.from i.upto words (k - 1) buffer r.at l r.vm words' buffer' t
           → Head i vis lent words' t.held buffer' t.full v' (a + r.stepped) (b + 1 + r.begun) (c + t.read) (d + t.not_read)
           × (head_left i lent t.held v' < head_left i lent k v)
-      turn_takes o {words'} {buffer'} {t} taken = by block.ends
+      turn_takes x o {words'} {buffer'} {t} taken = by block.ends
         where
-          by : Last (ground_in i lent) r.last.at r.last.vm block.map block.many r v'
+          by : Last (ground_in i lent) r.at r.vm block.map block.many r v'
               → Head i vis lent words' t.held buffer' t.full v' (a + r.stepped) (b + 1 + r.begun) (c + t.read) (d + t.not_read)
               × (head_left i lent t.held v' < head_left i lent k v)
-          by (past w l s m) = absurd (true≢false (sym o ∙ l))
-          by (jumps_out {x} {y} w e q l s m) = absurd (true≢false (sym o ∙ l))
-          by (jumps_old {x} {y} w e q u l s m) = absurd (true≢false (sym o ∙ l))
-          by (leaves_by ys w e f l s m) =
-              rw (m, s, carried) (head_leave i vis lent fine h (k - 1) one new block.line w ys e (rw h.slots at (taken.ways ys f)))
+          by (past w l s m) = some_not_none x (sym o ∙ l)
+          by (jumps_out w e q l s m) = some_not_none x (sym o ∙ l)
+          by (jumps_old w e q u l s m) = some_not_none x (sym o ∙ l)
+          by (leaves_by l ys w e f q s m) =
+              rw (m, s, carried) (head_leave i vis lent fine h (k - 1) one new block.line w ys e (rw h.slots at (taken.ways ys (rw (same_leave x l (sym o ∙ q)) f))))
+
+      -- the end of its block was followed
+      pub turn_follows : {words' buffer' : List ℕ} {t : Taken} → Followed i.tables i.bytes i.from i.upto words (k - 1) buffer r words' buffer' t
+          → Head i vis lent words' t.held buffer' t.full v' (a + r.stepped) (b + 1 + r.begun) (c + t.read) (d + t.not_read)
+          × (head_left i lent t.held v' < head_left i lent k v)
+      turn_follows (stays o e f g) =
+          let read : c + 0 ≡ c = omega arith in
+          let unread : d + 0 ≡ d = omega arith in
+          rw (e, f, g, read, unread) (turn_idle o)
+      turn_follows (goes l o taken) = turn_takes l o taken
 
 -- what the loop keeps: from where it began, whatever the walk's starts were
-abbrev pub Kept : List ℕ → List ℕ → SectionAddress → MaybeAddress → List ℕ → ℕ → List ℕ → Bool → List ℕ
+abbrev pub Kept : List ℕ → List ℕ → SectionAddress → Option SectionAddress → List ℕ → ℕ → List ℕ → Bool → List ℕ
     → List ℕ → ℕ → List ℕ → Bool → List ℕ → ℕ → ℕ → ℕ → ℕ → Type 0
 Kept ws bs from upto words₀ n₀ buffer₀ full₀ v₀ words n buffer full v a b c d =
-    (starts : List SectionAddress) (two thirteen : MaybeBase) (vis : List ℕ) (lent : Lent) → judged (given ws bs starts two thirteen from upto) vis ≡ answer.Done
+    (starts : List SectionAddress) (two thirteen : Option ℕ) (vis : List ℕ) (lent : Lent) → judged (given ws bs starts two thirteen from upto) vis ≡ Ok tt
     → Head (given ws bs starts two thirteen from upto) vis lent words₀ n₀ buffer₀ full₀ v₀ 0 0 0 0
     → Head (given ws bs starts two thirteen from upto) vis lent words n buffer full v a b c d
 
-module _ {ws bs starts : List ℕ} {two thirteen : MaybeBase} {vis words : List ℕ} {r : Begun} {vis' words' : List ℕ}
-    (begun : Begins ws bs starts two thirteen vis words r vis' words') (from : SectionAddress) (upto : MaybeAddress) (buffer : List ℕ) where
+module _ {ws bs starts : List ℕ} {two thirteen : (Option ℕ)} {vis words : List ℕ} {r : Result Begun WalkError} {vis' words' : List ℕ}
+    (begins : Begins ws bs starts two thirteen vis words r vis' words') (from : SectionAddress) (upto : Option SectionAddress) (buffer : List ℕ) where
   abbrev i : Given
   i = given ws bs (places_of starts) two thirteen from upto
 
@@ -120,24 +135,27 @@ module _ {ws bs starts : List ℕ} {two thirteen : MaybeBase} {vis words : List 
   lent = record { stack = words; entries = buffer }
 
   -- a refusal leaves everything untouched
-  pub walk_refused : is_done r.answer ≡ false → walked i vis lent ≡ refused_with r.answer vis' (record { stack = words'; entries = buffer })
+  pub walk_refused : {e : WalkError} → r ≡ Err e → walked i vis lent ≡ refused_with e vis' (record { stack = words'; entries = buffer })
   unfolding walked
-  walk_refused o =
-      let same = begun.untouched o in
-      rw (← begun.answers from upto, same.0, same.1) (refused_is r.answer _ _ o)
+  walk_refused f =
+      let same = rw f at begins.refused in
+      rw (same.0 from upto, same.1, same.2)
 
   -- else the walk stands where its loop does
-  module _ (done : is_done r.answer ≡ true) where
-    fine : judged i vis ≡ answer.Done
-    fine = judged_fine i vis r.answer (begun.answers from upto) done
+  module _ {b₀ : Begun} (ok : r ≡ Ok b₀) where
+    first : (judged i vis ≡ Ok tt) × Head i vis lent words' b₀.held buffer b₀.full vis' 0 0 0 0
+    first = (rw ok at begins.begun) from upto buffer
+
+    fine : judged i vis ≡ Ok tt
+    fine = first.0
 
     pub walk_sound : sound ws (length bs) ≡ true
     walk_sound = image_sound i vis lent fine
 
     module _ {words'' : List ℕ} {k : ℕ} {buffer'' : List ℕ} {full : Bool} {v : List ℕ} {a b c d : ℕ}
-        (kept : Kept ws bs from upto words' r.held buffer r.full vis' words'' k buffer'' full v a b c d) where
+        (kept : Kept ws bs from upto words' b₀.held buffer b₀.full vis' words'' k buffer'' full v a b c d) where
       walk_head : Head i vis lent words'' k buffer'' full v a b c d
-      walk_head = kept (places_of starts) two thirteen vis lent fine (begun.head done from upto buffer)
+      walk_head = kept (places_of starts) two thirteen vis lent fine first.1
 
       pub walk_held : Stack words'' k
       walk_held = walk_head.held
@@ -164,16 +182,10 @@ module _ {ws bs starts : List ℕ} {two thirteen : MaybeBase} {vis words : List 
         walk_below = head_below i vis lent fine top_head some
 
         module _ (new : visited_at v (word_number ws (held_at words'' (k - 1)).place) ≡ false) {e : Ending} {v' : List ℕ}
-            (block : (from : SectionAddress) (upto : MaybeAddress) (slots : ℕ)
+            (block : (from : SectionAddress) (upto : Option SectionAddress) (slots : ℕ)
             → Block (ground_of ws bs from upto slots) (held_at words'' (k - 1)).place (held_at words'' (k - 1)).state v e v') where
-          pub walk_idle : e.leaves ≡ false → Fit (a + e.stepped) (b + 1 + e.begun) c d × (head_left i lent (k - 1) v' < head_left i lent k v)
-          walk_idle o =
-              let turn = turn_idle i vis lent fine top_head some new (block from upto (room (length words))) o in
-              (head_fits i vis lent fine turn.0, turn.1)
-
-          pub walk_takes : e.leaves ≡ true → {words''' buffer''' : List ℕ} {t : Taken}
-              → TakenWays ws bs from upto words'' (k - 1) buffer'' e.last.at e.last.leave e.last.vm words''' buffer''' t
+          pub walk_follows : {words''' buffer''' : List ℕ} {t : Taken} → Followed ws bs from upto words'' (k - 1) buffer'' e words''' buffer''' t
               → Fit (a + e.stepped) (b + 1 + e.begun) (c + t.read) (d + t.not_read) × (head_left i lent t.held v' < head_left i lent k v)
-          walk_takes o taken =
-              let turn = turn_takes i vis lent fine top_head some new (block from upto (room (length words))) o taken in
+          walk_follows followed =
+              let turn = turn_follows i vis lent fine top_head some new (block from upto (room (length words))) followed in
               (head_fits i vis lent fine turn.0, turn.1)

@@ -1,5 +1,6 @@
 -- What a word that leaves asks: a jump inside its section, or ways to take.
 -- Assumes nothing.
+use Rattle.std.specs.Prelude.{Option, Some, None}
 use mathlib.Core.Path.{◌≡◌, refl}
 use mathlib.Core.Bool.{Bool, true, false}
 use mathlib.Core.List.{List, [], ◌∷◌}
@@ -8,8 +9,6 @@ use Rattle.words.specs.Choice.{pick}
 use Rattle.places.specs.declared.SectionAddress.{SectionAddress}
 use Rattle.places.specs.declared.RelocationTarget.{RelocationTarget}
 use Rattle.places.specs.declared.RelocationTarget.TheVariants as target
-use Rattle.places.specs.declared.MaybeAddress.{MaybeAddress}
-use Rattle.places.specs.declared.MaybeAddress.TheVariants.{Nowhere, At}
 use Rattle.vm.specs.declared.VM.{VM}
 use Rattle.vm.specs.declared.BranchTarget.{BranchTarget}
 use Rattle.vm.specs.declared.BranchTarget.TheVariants as branch
@@ -22,12 +21,12 @@ use Rattle.turns.specs.Straight.{leaving}
 use Rattle.walk.specs.Blocks.{target_in, branch_in, jump_in}
 
 -- a move is the jump to that place, or it leaves by ways
-abbrev pub Asks : MaybeAddress → Move SectionAddress VM Asked → VM → Type 0
-Asks Nowhere m s = (ys : List (Way SectionAddress VM Asked)) × (m ≡ leave ys)
-Asks (At q) m s = m ≡ jump q s
+abbrev pub Asks : Option SectionAddress → Move SectionAddress VM Asked → VM → Type 0
+Asks None m s = (ys : List (Way SectionAddress VM Asked)) × (m ≡ leave ys)
+Asks (Some q) m s = m ≡ jump q s
 
 module _ (at : SectionAddress) (s : VM) where
-  by_section : (q : SectionAddress) (t : Bool) → Asks (pick t (At q) Nowhere) (pick t (jump q s) (leave (to q s ∷ []))) s
+  by_section : (q : SectionAddress) (t : Bool) → Asks (pick t (Some q) None) (pick t (jump q s) (leave (to q s ∷ []))) s
   by_section q true = refl
   by_section q false = (_, refl)
 

@@ -6,6 +6,7 @@ use mathlib.Core.Bool.{Bool, true, false}
 use mathlib.Core.List.{List}
 use native.Mathlib.Omega.{arith}
 use lib.ListN.{length}
+use Rattle.std.specs.Prelude.{⊤, Result, Ok, Err}
 use Rattle.words.specs.Choice.{pick}
 use Rattle.places.specs.declared.SectionAddress.{SectionAddress}
 use Rattle.image.specs.Rules.{code_words}
@@ -13,8 +14,8 @@ use Rattle.lookups.specs.Code.{code_place, word_number}
 use Rattle.vm.specs.declared.VM.{VM}
 use Rattle.vm.specs.States.{bases_of}
 use Rattle.visited.specs.Bits.{bit_at, visited_at, ones_below}
-use Rattle.turns.specs.declared.WalkAnswer.{WalkAnswer}
-use Rattle.turns.specs.declared.WalkAnswer.TheVariants as answer
+use Rattle.turns.specs.declared.WalkError.{WalkError}
+use Rattle.turns.specs.declared.WalkError.TheVariants as error
 use Rattle.turns.specs.declared.Walked.{Walked}
 use Rattle.turns.specs.Turns.{ended}
 use Rattle.turns.specs.Histories.{first_visits, tables, ReachedFrom}
@@ -42,10 +43,10 @@ pub record Untouched (i : Given) (vis : List ℕ) (lent : Lent) (r : Walked) (vi
   pub map : vis' ≡ vis
   pub words : lent' ≡ lent
 
-untouched : (i : Given) (vis : List ℕ) (lent : Lent) (r : Walked) (vis' : List ℕ) (lent' : Lent) (a : WalkAnswer) → judged i vis ≡ a
-    → refused_with a vis lent ≡ record { result = r; vis = vis'; lent = lent' } → Untouched i vis lent r vis' lent'
-untouched i vis lent r vis' lent' a e same = record {
-  answers = sym (ap (λ (x : Leaves). x.result.answer) same) ∙ sym e;
+untouched : (i : Given) (vis : List ℕ) (lent : Lent) (r : Walked) (vis' : List ℕ) (lent' : Lent) (e : WalkError) → judged i vis ≡ Err e
+    → refused_with e vis lent ≡ record { result = r; vis = vis'; lent = lent' } → Untouched i vis lent r vis' lent'
+untouched i vis lent r vis' lent' e f same = record {
+  answers = sym (ap (λ (x : Leaves). x.result.answer) same) ∙ sym f;
   counts = (
     sym (ap (λ (x : Leaves). x.result.stepped) same),
     sym (ap (λ (x : Leaves). x.result.begun) same),
@@ -61,20 +62,16 @@ module _ (i : Given) (vis : List ℕ) (lent : Lent) (r : Walked) (vis' : List �
   abbrev W : ℕ
   W = code_words i.tables
 
-  pub refusal : (judged i vis ≡ answer.Done → ⊥) → Untouched i vis lent r vis' lent'
+  pub refusal : (judged i vis ≡ Ok tt → ⊥) → Untouched i vis lent r vis' lent'
   unfolding walked
   refusal no_Walk = by (judged i vis) refl
     where
-      by : (a : WalkAnswer) → judged i vis ≡ a → Untouched i vis lent r vis' lent'
-      by answer.Done e = absurd (no_Walk e)
-      by answer.BrokenImage e = untouched i vis lent r vis' lent' answer.BrokenImage e (rw e at allowed)
-      by answer.NotCode e = untouched i vis lent r vis' lent' answer.NotCode e (rw e at allowed)
-      by answer.Misaligned e = untouched i vis lent r vis' lent' answer.Misaligned e (rw e at allowed)
-      by answer.MapTooSmall e = untouched i vis lent r vis' lent' answer.MapTooSmall e (rw e at allowed)
-      by answer.StackFull e = untouched i vis lent r vis' lent' answer.StackFull e (rw e at allowed)
+      by : (a : Result ⊤ WalkError) → judged i vis ≡ a → Untouched i vis lent r vis' lent'
+      by (Ok u) e = absurd (no_Walk e)
+      by (Err x) e = untouched i vis lent r vis' lent' x e (rw e at allowed)
 
   -- of a walk that nothing refused
-  module _ (fine : judged i vis ≡ answer.Done) where
+  module _ (fine : judged i vis ≡ Ok tt) where
     ends_so : left_by (walk_over i vis lent) ≡ record { result = r; vis = vis'; lent = lent' }
     ends_so = sym (laws.walked_whole i vis lent fine) ∙ allowed
 
@@ -117,11 +114,11 @@ module _ (i : Given) (vis : List ℕ) (lent : Lent) (r : Walked) (vis' : List �
 
     -- a walk of one block alone is ruled out: where the answer is 0, every start is visited, every word of code that a stepped word
     -- leads to, and nothing waits
-    module _ (zero : r.answer ≡ answer.Done) where
+    module _ (zero : r.answer ≡ Ok tt) where
       not_full : (walk_over i vis lent).pile.full ≡ false
       not_full = by (walk_over i vis lent).pile.full (ap (λ (x : Leaves). x.result.answer) ends_so ∙ zero)
         where
-          by : (t : Bool) → pick t answer.StackFull answer.Done ≡ answer.Done → t ≡ false
+          by : (t : Bool) → ◌≡◌ {A = Result ⊤ WalkError} (pick t (Err error.StackFull) (Ok tt)) (Ok tt) → t ≡ false
           by true e = let z = ap answer_of e in absurd (omega arith)
           by false e = refl
 

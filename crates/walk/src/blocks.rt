@@ -1,6 +1,6 @@
 // One block: straight runs in place, and the jumps inside the section from one to the next.
 // The image is sound.
-ghost use Rattle.std.specs.Prelude.{◌≡◌, true, ◌&&◌, not, ℕ, ◌*◌, ◌≤◌, length};
+ghost use Rattle.std.specs.Prelude.{◌≡◌, true, ◌&&◌, not, ℕ, ◌*◌, ◌≤◌, length, Option};
 ghost use Rattle.image.specs.Rules.{code_words, sound, tables_sound};
 ghost use Rattle.lookups.specs.Code.{code_place, word_number};
 ghost use Rattle.visited.specs.Bits.{visited_at};
@@ -9,57 +9,43 @@ ghost use Rattle.cells.specs.Cells.{state_of, Cells};
 ghost use Rattle.walk.specs.Blocks.{target_in, branch_in, jump_in, ending_of, Block};
 
 use crate::Ended;
-use lookups::{CodePlace, code_place, word_number};
-use places::{MaybeAddress, RelocationTarget, SectionAddress};
+use lookups::{PlaceError, code_place, word_number};
+use places::{RelocationTarget, SectionAddress};
 use runs::is_ended;
 use step::Leave;
 use vm::BranchTarget;
 
 // A target in the section of that index.
-fn target_in(t: RelocationTarget, section: u32) -> MaybeAddress
+fn target_in(t: RelocationTarget, section: u32) -> Option<SectionAddress>
     ensures { result ≡ target_in t section }
 {
     match t {
         RelocationTarget::Address(q) => {
             if q.section == section {
-                return MaybeAddress::At(q);
+                return Some(q);
             }
-            MaybeAddress::Nowhere
+            None
         }
-        RelocationTarget::External => MaybeAddress::Nowhere,
+        RelocationTarget::External => None,
     }
 }
 
-fn branch_in(t: BranchTarget, section: u32) -> MaybeAddress
+fn branch_in(t: BranchTarget, section: u32) -> Option<SectionAddress>
     ensures { result ≡ branch_in t section }
 {
     match t {
         BranchTarget::Address(a) => target_in(a, section),
-        BranchTarget::Unknown => MaybeAddress::Nowhere,
-        BranchTarget::Return => MaybeAddress::Nowhere,
-        BranchTarget::JumpTable {
-            address: _,
-            size: _,
-        } => MaybeAddress::Nowhere,
+        _ => None,
     }
 }
 
 // Where a word jumps to inside its section, if it does.
-fn jump_in(l: Leave, section: u32) -> MaybeAddress
+fn jump_in(l: Leave, section: u32) -> Option<SectionAddress>
     ensures { result ≡ jump_in l section }
 {
     match l {
         Leave::Jump(t) => branch_in(t, section),
-        Leave::Ended => MaybeAddress::Nowhere,
-        Leave::Illegal => MaybeAddress::Nowhere,
-        Leave::Call(_) => MaybeAddress::Nowhere,
-        Leave::Fork {
-            target: _,
-            crf: _,
-            stays: _,
-            goes: _,
-        } => MaybeAddress::Nowhere,
-        Leave::Both(_) => MaybeAddress::Nowhere,
+        _ => None,
     }
 }
 
@@ -69,9 +55,9 @@ fn is_new(im: &[u32], map: &[u32], q: SectionAddress) -> bool
     ensures { result ≡ is_fine (code_place im.now q) && not (visited_at map.now (word_number im.now q)) }
 {
     match code_place(im, q) {
-        CodePlace::Fine => !visited::contains(map, word_number(im, q)),
-        CodePlace::NotCode => false,
-        CodePlace::Misaligned => false,
+        Ok(()) => !visited::contains(map, word_number(im, q)),
+        Err(PlaceError::NotCode) => false,
+        Err(PlaceError::Misaligned) => false,
     }
 }
 
@@ -85,11 +71,12 @@ pub fn run_block(
     cells: &mut [u32],
 ) -> Ended
     requires { (sound im.now (length bytes.now) ≡ true) × (code_words im.now ≤ length map.old * 32) × (is_fine (code_place im.now from) ≡ true) × Cells cells.old (state_of cells.old) }
-    ensures { Cells cells.new (state_of cells.new) × ((start : SectionAddress) (end : MaybeAddress) (slots : ℕ) → Block (ground_of im.now bytes.now start end slots) from (state_of cells.old) map.old (ending_of result (state_of cells.new)) map.new) }
+    ensures { Cells cells.new (state_of cells.new) × ((start : SectionAddress) (end : Option SectionAddress) (slots : ℕ) → Block (ground_of im.now bytes.now start end slots) from (state_of cells.old) map.old (ending_of result (state_of cells.new)) map.new) }
 {
     let mut p = from;
     let mut stepped: u64 = 0;
     let mut begun: u64 = 0;
+    // No for: a block goes on by its jumps.
     loop {
         let code = lookups::data_from(im, bytes, p);
         let r = runs::run(im, code, p, cells);
@@ -100,8 +87,7 @@ pub fn run_block(
         if is_ended(l) {
             visited::mark_run(map, w, many);
             return Ended {
-                leaves: false,
-                leave: l,
+                leave: None,
                 at,
                 stepped: stepped + many as u64,
                 begun,
@@ -110,24 +96,22 @@ pub fn run_block(
         visited::mark_run(map, w, many + 1);
         stepped = stepped + many as u64 + 1;
         match jump_in(l, at.section) {
-            MaybeAddress::Nowhere => {
+            None => {
                 return Ended {
-                    leaves: true,
-                    leave: l,
+                    leave: Some(l),
                     at,
                     stepped,
                     begun,
                 };
             }
-            MaybeAddress::At(q) => {
+            Some(q) => {
                 if is_new(im, map, q) {
-                    begun = begun + 1;
+                    begun += 1;
                     p = q;
                     continue;
                 }
                 return Ended {
-                    leaves: false,
-                    leave: l,
+                    leave: None,
                     at,
                     stepped,
                     begun,

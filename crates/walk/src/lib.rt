@@ -5,38 +5,40 @@
 pub mod blocks;
 pub mod starts;
 
-ghost use Rattle.std.specs.Prelude.{◌≡◌};
+ghost use Rattle.std.specs.Prelude.{◌≡◌, true, length};
+ghost use Rattle.image.specs.Rules.{tables_sound, data_inside};
+ghost use Rattle.cells.specs.Cells.{state_of, Cells};
+ghost use Rattle.stack.specs.Stack.{Stack};
+ghost use Rattle.turns.specs.Moves.{table_room};
 ghost use Rattle.turns.specs.Walks.{given, walked};
 ghost use Rattle.walk.specs.Starts.{places_of};
+ghost use Rattle.walk.specs.Blocks.{ending_of, Followed};
 
 use blocks::run_block;
 use cells::STATE_WORDS;
 use lookups::word_number;
-use places::{MaybeAddress, SectionAddress};
-use pushes::take;
-use starts::{begin, is_done};
+use places::SectionAddress;
+use pushes::{Taken, take};
+use starts::begin;
 use step::Leave;
-use turns::{WalkAnswer, Walked};
-use vm::MaybeBase;
+use turns::{WalkError, Walked};
 
 // How many entries a table may have in a walk.
 pub const TABLE_ROOM: usize = 1024;
 
-// How a walk begins: the judgement, and where nothing is refused how many starts wait, and whether a push was refused (5).
+// How a walk begins: how many starts wait, and whether a push was refused (5); a flag, since those before it wait then too.
 #[derive(Clone, Copy)]
 pub struct Begun {
-    pub answer: WalkAnswer,
     pub held: usize,
     pub full: bool,
 }
 
-// How a block ended. `leaves`: its last word leaves by ways that are still to take; else nothing is left to do there. `at` is the
+// How a block ended: how its last word leaves, where its ways are still to take; None where nothing is left to do. `at` is the
 // word that left, or the section's end. Then how many words were stepped, the last one included where there is one, and how many
 // blocks were begun by jumps inside the section.
 #[derive(Clone, Copy)]
 pub struct Ended {
-    pub leaves: bool,
-    pub leave: Leave,
+    pub leave: Option<Leave>,
     pub at: SectionAddress,
     pub stepped: u64,
     pub begun: u64,
@@ -51,28 +53,29 @@ pub fn walk(
     im: &[u32],
     data: &[u8],
     starts: &[u64],
-    two: MaybeBase,
-    thirteen: MaybeBase,
+    two: Option<u32>,
+    thirteen: Option<u32>,
     from: SectionAddress,
-    upto: MaybeAddress,
+    upto: Option<SectionAddress>,
     map: &mut [u32],
     stack: &mut [u32],
     entries: &mut [u64; TABLE_ROOM],
 ) -> Walked
     ensures { walked (given im.now «data».now (places_of starts.now) two thirteen from upto) map.old (record { stack = stack.old; entries = entries.old }) ≡ record { result = result; vis = map.new; lent = record { stack = stack.new; entries = entries.new } } }
 {
-    let b = begin(im, data, starts, two, thirteen, map, stack);
-    let a = b.answer;
-    if !is_done(a) {
-        return Walked {
-            answer: a,
-            stepped: 0,
-            begun: 0,
-            read: 0,
-            not_read: 0,
-            held: 0,
-        };
-    }
+    let b = match begin(im, data, starts, two, thirteen, map, stack) {
+        Ok(b) => b,
+        Err(e) => {
+            return Walked {
+                answer: Err(e),
+                stepped: 0,
+                begun: 0,
+                read: 0,
+                not_read: 0,
+                held: 0,
+            };
+        }
+    };
     let mut state = [0u32; STATE_WORDS];
     let mut held = b.held;
     let mut full = b.full;
@@ -80,10 +83,11 @@ pub fn walk(
     let mut begun: u64 = 0;
     let mut read: u64 = 0;
     let mut not_read: u64 = 0;
+    // No for: how many states will wait is not known before.
     loop {
         if full {
             return Walked {
-                answer: WalkAnswer::StackFull,
+                answer: Err(WalkError::StackFull),
                 stepped,
                 begun,
                 read,
@@ -93,7 +97,7 @@ pub fn walk(
         }
         if held == 0 {
             return Walked {
-                answer: WalkAnswer::Done,
+                answer: Ok(()),
                 stepped,
                 begun,
                 read,
@@ -103,26 +107,46 @@ pub fn walk(
         }
         let p = stack::top_place(stack, held);
         if visited::contains(map, word_number(im, p)) {
-            held = held - 1;
+            held -= 1;
             continue;
         }
         stack::top_cells(stack, held, &mut state);
         let e = run_block(im, data, map, p, &mut state);
-        held = held - 1;
-        if e.leaves {
-            let leave = e.leave;
-            let t = take(
-                im, data, from, upto, stack, held, entries, e.at, leave, &state,
-            );
-            held = t.held;
-            full = t.full;
-            stepped = stepped + e.stepped;
-            begun = begun + 1 + e.begun;
-            read = read + t.read;
-            not_read = not_read + t.not_read;
-            continue;
-        }
-        stepped = stepped + e.stepped;
-        begun = begun + 1 + e.begun;
+        let t = follow(im, data, from, upto, stack, held - 1, entries, e, &state);
+        held = t.held;
+        full = t.full;
+        stepped += e.stepped;
+        begun += 1 + e.begun;
+        read += t.read;
+        not_read += t.not_read;
+    }
+}
+
+// What the end of a block asks for: its last word's ways are taken, if it left by some.
+fn follow(
+    im: &[u32],
+    data: &[u8],
+    from: SectionAddress,
+    upto: Option<SectionAddress>,
+    stack: &mut [u32],
+    held: usize,
+    entries: &mut [u64],
+    e: Ended,
+    state: &[u32],
+) -> Taken
+    requires im_value { (tables_sound im.now ≡ true) × (data_inside im.now (length «data».now) ≡ true) × Cells state.now (state_of state.now) }
+    requires stack { Stack stack.old held × (length entries.old ≡ table_room) }
+    ensures { Followed im.now «data».now from upto stack.old held entries.old (ending_of e (state_of state.now)) stack.new entries.new result }
+{
+    match e.leave {
+        Some(leave) => take(
+            im, data, from, upto, stack, held, entries, e.at, leave, state,
+        ),
+        None => Taken {
+            held,
+            full: false,
+            read: 0,
+            not_read: 0,
+        },
     }
 }

@@ -1,73 +1,58 @@
 // What comes before the first block: judging, and the starts pushed.
 // Requires nothing; the image may be broken.
-ghost use Rattle.std.specs.Prelude.{◌≡◌, true};
+ghost use Rattle.std.specs.Prelude.{◌≡◌, true, ℕ, Ok, Option};
 ghost use Rattle.places.specs.declared.SectionAddress.{SectionAddress};
-ghost use Rattle.places.specs.declared.MaybeAddress.{MaybeAddress};
 ghost use Rattle.image.specs.Rules.{tables_sound};
-ghost use Rattle.vm.specs.declared.MaybeBase.{MaybeBase};
-ghost use Rattle.turns.specs.Walks.{given, starts_judged, judged};
-ghost use Rattle.walk.specs.Starts.{places_of, is_done, Begins};
+ghost use Rattle.lookups.specs.Code.{code_place};
+ghost use Rattle.turns.specs.Walks.{given, starts_judged, judged_by, judged};
+ghost use Rattle.walk.specs.Starts.{places_of, Begins};
 
 use crate::Begun;
 use cells::STATE_WORDS;
 use clones::Made;
-use image::Judged;
+use image::BrokenImage;
 use image::code::code_words;
-use lookups::{CodePlace, code_place};
+use lookups::{PlaceError, code_place};
+use places::SectionAddress;
 use pushes::tables::{place_of, push_keys};
-use turns::WalkAnswer;
-use vm::MaybeBase;
+use turns::WalkError;
 use vm::state::new_with_base;
 
-// The starts in turn, the first bad one deciding: NotCode (2), Misaligned (3), else Done.
-fn judge_starts(im: &[u32], starts: &[u64]) -> WalkAnswer
+// A start that is no code is NotCode (2), one that is not aligned Misaligned (3).
+fn judge_start(im: &[u32], p: SectionAddress) -> Result<(), WalkError>
+    requires { tables_sound im.now ≡ true }
+    ensures { result ≡ judged_by (code_place im.now p) (Ok tt) }
+{
+    match code_place(im, p) {
+        Err(PlaceError::NotCode) => Err(WalkError::NotCode),
+        Err(PlaceError::Misaligned) => Err(WalkError::Misaligned),
+        Ok(()) => Ok(()),
+    }
+}
+
+// The starts in turn, the first bad one deciding.
+fn judge_starts(im: &[u32], starts: &[u64]) -> Result<(), WalkError>
     requires { tables_sound im.now ≡ true }
     ensures { result ≡ starts_judged im.now (places_of starts.now) }
 {
-    let mut j: usize = 0;
-    while j < starts.len() {
-        match code_place(im, place_of(starts[j])) {
-            CodePlace::NotCode => {
-                return WalkAnswer::NotCode;
-            }
-            CodePlace::Misaligned => {
-                return WalkAnswer::Misaligned;
-            }
-            CodePlace::Fine => {
-                j = j + 1;
-                continue;
-            }
-        }
+    for start in starts {
+        judge_start(im, place_of(*start))?;
     }
-    WalkAnswer::Done
+    Ok(())
 }
 
-// BrokenImage (1), MapTooSmall (4), then the starts; Done where nothing is refused.
-fn judge(im: &[u32], data: &[u8], starts: &[u64], map: &[u32]) -> WalkAnswer
-    ensures { (two thirteen : MaybeBase) (from : SectionAddress) (upto : MaybeAddress) → result ≡ judged (given im.now «data».now (places_of starts.now) two thirteen from upto) map.now }
+// BrokenImage (1), MapTooSmall (4), then the starts.
+fn judge(im: &[u32], data: &[u8], starts: &[u64], map: &[u32]) -> Result<(), WalkError>
+    ensures { (two thirteen : Option ℕ) (from : SectionAddress) (upto : Option SectionAddress) → result ≡ judged (given im.now «data».now (places_of starts.now) two thirteen from upto) map.now }
 {
     match image::check_image(im, data) {
-        Judged::Broken => WalkAnswer::BrokenImage,
-        Judged::Sound => {
+        Err(_) => Err(WalkError::BrokenImage),
+        Ok(()) => {
             if visited::has_room(map, code_words(im)) {
                 return judge_starts(im, starts);
             }
-            WalkAnswer::MapTooSmall
+            Err(WalkError::MapTooSmall)
         }
-    }
-}
-
-// Whether nothing was refused.
-pub fn is_done(a: WalkAnswer) -> bool
-    ensures { result ≡ is_done a }
-{
-    match a {
-        WalkAnswer::Done => true,
-        WalkAnswer::BrokenImage => false,
-        WalkAnswer::NotCode => false,
-        WalkAnswer::Misaligned => false,
-        WalkAnswer::MapTooSmall => false,
-        WalkAnswer::StackFull => false,
     }
 }
 
@@ -76,28 +61,20 @@ pub fn begin(
     im: &[u32],
     data: &[u8],
     starts: &[u64],
-    two: MaybeBase,
-    thirteen: MaybeBase,
+    two: Option<u32>,
+    thirteen: Option<u32>,
     map: &mut [u32],
     stack: &mut [u32],
-) -> Begun
+) -> Result<Begun, WalkError>
     ensures { Begins im.now «data».now starts.now two thirteen map.old stack.old result map.new stack.new }
 {
-    let a = judge(im, data, starts, map);
-    if is_done(a) {
-        visited::clear(map, code_words(im));
-        let mut fresh = [0u32; STATE_WORDS];
-        cells::put_state(&mut fresh, new_with_base(two, thirteen));
-        let t = push_keys(im, stack, 0, starts, starts.len(), &fresh, Made::Same);
-        return Begun {
-            answer: a,
-            held: t.held,
-            full: t.full,
-        };
-    }
-    Begun {
-        answer: a,
-        held: 0,
-        full: false,
-    }
+    judge(im, data, starts, map)?;
+    visited::clear(map, code_words(im));
+    let mut fresh = [0u32; STATE_WORDS];
+    cells::put_state(&mut fresh, new_with_base(two, thirteen));
+    let t = push_keys(im, stack, 0, starts, starts.len(), &fresh, Made::Same);
+    Ok(Begun {
+        held: t.held,
+        full: t.full,
+    })
 }

@@ -4,83 +4,49 @@
 
 mod print;
 mod read;
-mod rooms;
 
+use places::SectionAddress;
+use read::Words;
 use std::io;
-use streams::read_full;
-use turns::{WalkAnswer, Walked};
+use streams::{read_full, room};
+use turns::Walked;
 
-// `at` is where the walk's payload stands.
+// What a walk is given.
+#[derive(Clone, Copy)]
+struct Given<'a> {
+    image: &'a [u32],
+    data: &'a [u8],
+    starts: &'a [u64],
+    two: Option<u32>,
+    thirteen: Option<u32>,
+    from: SectionAddress,
+    upto: Option<SectionAddress>,
+}
+
 fn repeat(
-    file: &[u8],
-    at: usize,
-    im: &[u32],
-    bytes: &[u8],
-    starts: &[u64],
+    turns: u32,
+    g: Given,
     map: &mut [u32],
     stack: &mut [u32],
     entries: &mut [u64; 1024],
 ) -> Walked {
-    let two = read::base(file, read::plus(at, 3));
-    let thirteen = read::base(file, read::plus(at, 5));
-    let from = read::place(file, read::plus(at, 7));
-    let upto = read::maybe_place(file, read::plus(at, 9));
-    let turns = read::word(file, 0);
     let mut last = Walked {
-        answer: WalkAnswer::Done,
+        answer: Ok(()),
         stepped: 0,
         begun: 0,
         read: 0,
         not_read: 0,
         held: 0,
     };
-    let mut k: u32 = 0;
-    while k < turns {
+    for _ in 0..turns {
         last = walk::walk(
-            im, bytes, starts, two, thirteen, from, upto, map, stack, entries,
+            g.image, g.data, g.starts, g.two, g.thirteen, g.from, g.upto, map, stack, entries,
         );
-        k += 1;
     }
     last
 }
 
-// The image's words, its data and the starts are parts of their buffers.
-fn in_parts(
-    rt: &impl Print,
-    file: &[u8],
-    at: usize,
-    im: &[u32],
-    words: usize,
-    first: usize,
-    end: usize,
-    starts: &[u64],
-    many: usize,
-    map: &mut [u32],
-    stack: &mut [u32],
-    entries: &mut [u64; 1024],
-) -> io::Result<()> {
-    if words <= im.len() {
-        if end <= file.len() {
-            if first <= end {
-                if many <= starts.len() {
-                    let r = repeat(
-                        file,
-                        at,
-                        &im[..words],
-                        &file[first..end],
-                        &starts[..many],
-                        map,
-                        stack,
-                        entries,
-                    );
-                    return print::answer(rt, r, map, read::count(file, read::plus(at, 1)));
-                }
-            }
-        }
-    }
-    Ok(())
-}
-
+// The image's words, its data and the starts are parts of their buffers; where one isn't, nothing is walked.
 fn measure(
     rt: &impl Print,
     file: &[u8],
@@ -88,46 +54,55 @@ fn measure(
     starts: &mut [u64],
     map: &mut [u32],
     stack: &mut [u32],
-    entries: &mut [u64; 1024],
 ) -> io::Result<()> {
-    let words = read::count(file, 3);
-    let size = read::count(file, words + 4);
-    let first = words * 4 + 20;
-    let at = words + 7 + (size + 3) / 4;
-    read::copy_words(file, 4, im);
-    read::copy_keys(file, at + 13, starts);
-    let many = read::count(file, at + 12);
-    in_parts(
-        rt,
-        file,
-        at,
-        im,
-        words,
-        first,
-        first + size,
-        starts,
-        many,
-        map,
-        stack,
-        entries,
-    )
+    let mut p = Words { rest: file };
+    let turns = p.word();
+    p.head();
+    let words = p.word() as usize;
+    if im.len() < words {
+        return Ok(());
+    }
+    p.fill_words(&mut im[..words]);
+    let size = p.word() as usize;
+    let Some(data) = p.bytes(size) else {
+        return Ok(());
+    };
+    p.head();
+    p.word();
+    let shown = p.word() as usize;
+    p.word();
+    let two = p.base();
+    let thirteen = p.base();
+    let from = p.place();
+    let upto = p.maybe_place();
+    let many = p.word() as usize;
+    if starts.len() < many {
+        return Ok(());
+    }
+    p.fill_keys(&mut starts[..many]);
+    let given = Given {
+        image: &im[..words],
+        data,
+        starts: &starts[..many],
+        two,
+        thirteen,
+        from,
+        upto,
+    };
+    let mut entries = [0u64; 1024];
+    let r = repeat(turns, given, map, stack, &mut entries);
+    print::answer(rt, r, map, shown)
 }
 
+// Room for the files that bench/walk makes, together less than a usual stack of 8 MiB.
 fn main(rt: HostRuntime) -> io::Result<()> {
-    let mut file = rooms::file();
-    let mut im = rooms::image();
-    let mut starts = rooms::starts();
-    let mut map = rooms::map();
-    let mut stack = rooms::stack();
-    let mut entries = [0u64; 1024];
+    let mut file: [u8; 1114112] = room(0);
+    let mut im: [u32; 30000] = room(0);
+    let mut starts: [u64; 4096] = room(0);
+    // A bit for each of 262,144 words.
+    let mut map: [u32; 8192] = room(0);
+    // 5,120 states, each in 330 words and one for its order, and two words more.
+    let mut stack: [u32; 1694722] = room(0);
     read_full(&mut rt.stdin(), &mut file)?;
-    measure(
-        &rt,
-        &file,
-        &mut im,
-        &mut starts,
-        &mut map,
-        &mut stack,
-        &mut entries,
-    )
+    measure(&rt, &file, &mut im, &mut starts, &mut map, &mut stack)
 }

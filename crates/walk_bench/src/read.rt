@@ -1,69 +1,67 @@
-// The parts of the file, by word numbers. A word past its end reads as 0.
-ghost use Rattle.std.specs.Prelude.{◌<◌};
+// The parts of the file, one after the other. A word past its end reads as 0.
+// Twins of exchange's, over bytes: the file's words and its bytes together wouldn't leave room for the stack.
+use places::SectionAddress;
 
-use places::{MaybeAddress, SectionAddress};
-use vm::MaybeBase;
-
-pub(crate) fn plus(a: usize, b: usize) -> usize {
-    std::num::wrapping_add_usize(a, b)
+// What is still to be read.
+#[derive(Clone, Copy)]
+pub(crate) struct Words<'a> {
+    pub(crate) rest: &'a [u8],
 }
 
-pub(crate) fn word(file: &[u8], i: usize) -> u32 {
-    if i < 1048576 {
-        words::bytes::word_at(file, i * 4)
-    } else {
-        0
+impl<'a> Words<'a> {
+    pub(crate) fn word(&mut self) -> u32 {
+        let Some((four, rest)) = self.rest.split_first_chunk::<4>() else {
+            return 0;
+        };
+        self.rest = rest;
+        u32::from_be_bytes(*four)
     }
-}
 
-// A word that counts something.
-pub(crate) fn count(file: &[u8], i: usize) -> usize
-    ensures { result < 4294967296 }
-{
-    word(file, i) as usize
-}
-
-// The words from word i on, as many as there is room for.
-pub(crate) fn copy_words(file: &[u8], i: usize, to: &mut [u32]) {
-    let mut k = 0;
-    while k < to.len() {
-        to[k] = word(file, plus(i, k));
-        k += 1;
+    // A record's kind and its length.
+    pub(crate) fn head(&mut self) {
+        self.word();
+        self.word();
     }
-}
 
-// The places from word i on, each as one number.
-pub(crate) fn copy_keys(file: &[u8], i: usize, to: &mut [u64]) {
-    let mut at = i;
-    let mut k = 0;
-    while k < to.len() {
-        to[k] = key(word(file, at), word(file, plus(at, 1)));
-        at = plus(at, 2);
-        k += 1;
+    // The next n bytes, and on to the next word.
+    pub(crate) fn bytes(&mut self, n: usize) -> Option<&'a [u8]> {
+        let (part, rest) = self.rest.split_at_checked(n)?;
+        self.rest = rest.get((4 - n % 4) % 4..).unwrap_or(&[]);
+        Some(part)
     }
-}
 
-fn key(section: u32, address: u32) -> u64 {
-    section as u64 * 0x1_0000_0000 + address as u64
-}
-
-pub(crate) fn place(file: &[u8], i: usize) -> SectionAddress {
-    SectionAddress {
-        section: word(file, i),
-        address: word(file, plus(i, 1)),
+    // Words into the whole of a buffer.
+    pub(crate) fn fill_words(&mut self, to: &mut [u32]) {
+        for w in to.iter_mut() {
+            *w = self.word();
+        }
     }
-}
 
-pub(crate) fn maybe_place(file: &[u8], i: usize) -> MaybeAddress {
-    if word(file, i) == 0 {
-        return MaybeAddress::Nowhere;
+    // Places into the whole of a buffer, each as one number.
+    pub(crate) fn fill_keys(&mut self, to: &mut [u64]) {
+        for key in to.iter_mut() {
+            let section = u64::from(self.word());
+            let address = u64::from(self.word());
+            *key = section * 0x1_0000_0000 + address;
+        }
     }
-    MaybeAddress::At(place(file, plus(i, 1)))
-}
 
-pub(crate) fn base(file: &[u8], i: usize) -> MaybeBase {
-    if word(file, i) == 0 {
-        return MaybeBase::Unset;
+    pub(crate) fn place(&mut self) -> SectionAddress {
+        SectionAddress {
+            section: self.word(),
+            address: self.word(),
+        }
     }
-    MaybeBase::Value(word(file, plus(i, 1)))
+
+    pub(crate) fn maybe_place(&mut self) -> Option<SectionAddress> {
+        let there = self.word() != 0;
+        let place = self.place();
+        if there { Some(place) } else { None }
+    }
+
+    pub(crate) fn base(&mut self) -> Option<u32> {
+        let given = self.word() != 0;
+        let number = self.word();
+        if given { Some(number) } else { None }
+    }
 }

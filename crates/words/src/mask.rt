@@ -17,9 +17,5 @@ pub fn mask_value(begin: u32, end: u32) -> u32
 pub fn rotate_left(x: u32, n: u32) -> u32
     ensures { result ≡ rotated x n }
 {
-    let s = n % 32;
-    if s == 0 {
-        return x;
-    }
-    (x << s) | (x >> (32 - s))
+    x.rotate_left(n)
 }

@@ -6,30 +6,26 @@ ghost use Rattle.words.specs.Sums.{sum, complement_of, difference};
 pub fn wrapping_add(a: u32, b: u32) -> u32
     ensures { result ≡ sum a b }
 {
-    std::num::wrapping_add_u32(a, b)
+    a.wrapping_add(b)
 }
 
 // Every bit of a turned over.
 pub fn complement(a: u32) -> u32
     ensures { result ≡ complement_of a }
 {
-    0xffff_ffff - a
+    !a
 }
 
 // subf's sum: the complement of a, plus b, plus 1.
 pub fn subtract_from(a: u32, b: u32) -> u32
     ensures { result ≡ sum (sum (complement_of a) b) 1 }
 {
-    wrapping_add(wrapping_add(complement(a), b), 1)
+    b.wrapping_sub(a)
 }
 
 // a - b, modulo 2^32.
 pub fn wrapping_sub(a: u32, b: u32) -> u32
     ensures { result ≡ difference a b }
 {
-    if b <= a {
-        a - b
-    } else {
-        a + (0xffff_ffff - b) + 1
-    }
+    a.wrapping_sub(b)
 }

@@ -4,4 +4,4 @@ use Rattle.cells.proofs.ctr_in.Goals as goal
 
 pub returns : goal.returns
 unfolding state_at
-returns c = rw c.held_at-h.ensures
+returns c = rw c.held_at.ensures

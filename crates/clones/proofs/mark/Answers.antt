@@ -31,7 +31,7 @@ returns-then-cells-from c =
     let a = c.args in
     let s : VM = state_of a.cells.now in
     let t : on_mark (reg s a.k).value (λ j. eqb j a.crf) false ≡ true =
-    sym (mark_in a.cells.now s a.k a.crf c.requires.1 c.requires.2) ∙ rw (eq-eqb _ _ c.if-cells-from-eq4.true, eq-eqb _ _ c.if-cells-from.true) in
+    sym (mark_in a.cells.now s a.k a.crf c.requires.1 c.requires.2) ∙ rw (eq-eqb _ _ c.if-cells-from-eq4.true, eq-eqb _ _ (c.if-cells-from.true ∙ c.from.ensures)) in
     let e = value_marked s a.value a.crf a.k t in (
       λ h. c.put_marked.ensures.0 ∙ ap (λ (g : Gpr). put a.words.now (a.at + a.k * 8) (register_words g)) e,
       subst (λ (g : Gpr). mark_of g.value < 256) e c.put_marked.ensures.1,
@@ -42,7 +42,7 @@ returns-else-cells-from c =
     let a = c.args in
     let s : VM = state_of a.cells.now in
     let t : on_mark (reg s a.k).value (λ j. eqb j a.crf) false ≡ false =
-    sym (mark_in a.cells.now s a.k a.crf c.requires.1 c.requires.2) ∙ rw (eq-eqb _ _ c.if-cells-from-eq4.true, ne_eqb _ _ c.if-cells-from.false) in
+    sym (mark_in a.cells.now s a.k a.crf c.requires.1 c.requires.2) ∙ rw (eq-eqb _ _ c.if-cells-from-eq4.true, ne_eqb _ _ (λ e. c.if-cells-from.false (e ∙ sym c.from.ensures))) in
     let e = value_other s a.value a.crf a.k t in
     (λ h. h ∙ ap (λ (g : Gpr). put a.words.now (a.at + a.k * 8) (register_words g)) e, subst (λ (g : Gpr). mark_of g.value < 256) e (c.requires.1.fits.gprs a.k c.requires.2))
 

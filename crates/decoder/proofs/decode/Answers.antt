@@ -20,5 +20,5 @@ unfolding decoded
 returns c =
     let w = c.args.w in
     ap₂ together
-    (c.op_named-op.ensures ∙ ap (λ (e : ℕ). get_or names (e % 64) Illegal) c.entry_of-e.ensures ∙ op_coded (row_of w))
-    (c.kind_named-writes.ensures ∙ ap (λ (e : ℕ). get_or kinds (e / 64) Nothing) c.entry_of-e.ensures ∙ kind_coded (row_of w))
+    (c.op_named.ensures ∙ ap (λ (e : ℕ). get_or names (e % 64) Illegal) c.entry_of-e.ensures ∙ op_coded (row_of w))
+    (c.kind_named.ensures ∙ ap (λ (e : ℕ). get_or kinds (e / 64) Nothing) c.entry_of-e.ensures ∙ kind_coded (row_of w))

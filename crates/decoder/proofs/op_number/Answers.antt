@@ -11,4 +11,4 @@ pub returns : goal.returns
 unfolding decoded
 returns c =
     let r = row_of c.args.w in
-    ap (λ (e : ℕ). e % 64) c.entry_of.ensures ∙ digits_mod (kind_number r.writes) (number_lt r.op)
+    c.from.ensures ∙ ap (λ (e : ℕ). e % 64) c.entry_of.ensures ∙ digits_mod (kind_number r.writes) (number_lt r.op)

@@ -1,10 +1,10 @@
--- What was judged decides, in document 01's order.
+-- A lawful call's image is laid out.
 use mathlib.Core.Path.{sym, ◌∙◌}
 use lib.ListN.{length}
 use Rattle.executor.proofs.Judging.{judged}
 use Rattle.executor.proofs.reply.Goals as goal
 
-pub code_words-requires : goal.code_words-requires
-code_words-requires c =
+pub require_room-requires : goal.require_room-requires
+require_room-requires c =
     let a = c.args in
-    (judged a.im.now (length a.«data».now) a.stack.now a.count a.run.phase a.run.at (sym c.judge.ensures ∙ c.in-Lawful.is)).there
+    (judged a.im.now (length a.«data».now) a.stack.now a.count a.run.phase a.run.at (sym c.judge.ensures ∙ c.in_ok-judge.was)).there

@@ -5,7 +5,6 @@ use Rattle.step.specs.declared.Leave.TheVariants.{Fork}
 use Rattle.turns.proofs.Leavings.{leaving_fork}
 use Rattle.pushes.proofs.LeaveLaws.{taken_refused, taken_first, taken_both}
 use Rattle.cells.specs.Cells.{state_of}
-use borrow.Author.Rules.{rules}
 use Rattle.pushes.proofs.take_fork.Goals as goal
 
 pub returns-then-first : goal.returns-then-first

@@ -4,7 +4,6 @@ use Rattle.step.specs.declared.Leave.TheVariants.{Jump}
 use Rattle.turns.specs.Moves.{ways_of}
 use Rattle.pushes.proofs.LeaveLaws.{leaving_away, leaving_inside, taken_by, taken_nowhere, taken_inside}
 use Rattle.cells.specs.Cells.{state_of}
-use borrow.Author.Rules.{rules}
 use Rattle.pushes.proofs.take_jump.Goals as goal
 
 pub returns-then-stays_in : goal.returns-then-stays_in

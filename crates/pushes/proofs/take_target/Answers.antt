@@ -8,7 +8,6 @@ use Rattle.turns.proofs.PileLaws.{piles_no_way}
 use Rattle.pushes.proofs.WayLaws.{one_way, place_alone}
 use Rattle.cells.specs.Cells.{state_of}
 use Rattle.clones.specs.Clones.{made_of}
-use borrow.Author.Rules.{rules}
 use Rattle.pushes.proofs.take_target.Goals as goal
 
 pub returns-in-Unknown : goal.returns-in-Unknown

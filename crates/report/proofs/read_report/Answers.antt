@@ -7,17 +7,14 @@ use Rattle.report.proofs.read_report.Goals as goal
 pub code_words-w-requires : goal.code_words-w-requires
 code_words-w-requires c =
     let a = c.args in
-    let sound = judged_sound a.im.now (length a.«data».now) (sym c.check_image.ensures ∙ c.in-Sound.is) in
-    (tables_there a.im.now (length a.«data».now) sound).0
+    (tables_there a.im.now (length a.«data».now) (judged_sound a.im.now (length a.«data».now) (sym c.check_image.ensures ∙ c.in_ok-check_image.was))).0
 
 pub read_whole-requires : goal.read_whole-requires
 read_whole-requires c =
     let a = c.args in
-    let sound = judged_sound a.im.now (length a.«data».now) (sym c.check_image.ensures ∙ c.in-Sound.is) in
-    tables_there a.im.now (length a.«data».now) sound
+    tables_there a.im.now (length a.«data».now) (judged_sound a.im.now (length a.«data».now) (sym c.check_image.ensures ∙ c.in_ok-check_image.was))
 
-pub read_whole-requires-in-At : goal.read_whole-requires-in-At
-read_whole-requires-in-At c =
+pub read_whole-requires-2 : goal.read_whole-requires-2
+read_whole-requires-2 c =
     let a = c.args in
-    let sound = judged_sound a.im.now (length a.«data».now) (sym c.check_image.ensures ∙ c.in-Sound.is) in
-    tables_there a.im.now (length a.«data».now) sound
+    tables_there a.im.now (length a.«data».now) (judged_sound a.im.now (length a.«data».now) (sym c.check_image.ensures ∙ c.in_ok-check_image.was))

@@ -1,4 +1,4 @@
-use Rattle.std.proofs.Common.{◌≡◌, ℕ, ◌+◌, ◌-◌, ◌≢◌, List, true, subst, arith}
+use Rattle.std.proofs.Common.{◌≡◌, ℕ, ◌+◌, ◌-◌, ◌≢◌, List, true, sym, subst, arith}
 use Rattle.stack.proofs.Stacks.{push_stack, pop_stack}
 use Rattle.stack.specs.Stack.{Stack}
 use Rattle.stack_bench.proofs.churn_states.Goals as goal
@@ -7,11 +7,11 @@ use Rattle.stack_bench.proofs.churn_states.Goals as goal
 popped : (ws : List ℕ) (m : ℕ) → m ≢ 0 → Stack ws m → Stack ws (m - 1)
 popped ws m some st = pop_stack ws (m - 1) (subst (λ (k : ℕ). Stack ws k) (let e : m ≡ m - 1 + 1 = omega (arith, some) in e) st)
 
-pub push_state-r-requires : goal.push_state-r-requires
-push_state-r-requires c = popped c.loop-i.words c.loop-i.m c.if-m-eq0.false c.loop-i.invariant
+pub push_state-requires : goal.push_state-requires
+push_state-requires c = popped c.loop.words c.loop.m c.if-m-eq0.false c.loop.invariant
 
-pub loop-i-preserved : goal.loop-i-preserved
-loop-i-preserved c =
-    let q = c.loop-i in
-    let r = c.push_state-r in
-    push_stack q.words (q.m - 1) c.top_place-p.result c.top_state-s.result (popped q.words q.m c.if-m-eq0.false q.invariant) true r.result r.new.words r.ensures
+pub loop-preserved : goal.loop-preserved
+loop-preserved c =
+    let q = c.loop in
+    let r = c.push_state in
+    subst (λ (k : ℕ). Stack r.new.words k) (sym c.unwrap_or-m.ensures) (push_stack q.words (q.m - 1) c.top_place-p.result c.top_state-s.result (popped q.words q.m c.if-m-eq0.false q.invariant) true r.result r.new.words r.ensures)

@@ -1,9 +1,10 @@
-use Rattle.std.proofs.Common.{true, arith}
+use Rattle.std.proofs.Common.{ℕ, true, sym, subst}
 use Rattle.stack.proofs.Stacks.{push_stack}
+use Rattle.stack.specs.Stack.{Stack}
 use Rattle.stack_bench.proofs.fill_states.Goals as goal
 
 pub loop-i-preserved : goal.loop-i-preserved
 loop-i-preserved c =
     let q = c.loop-i in
-    let r = c.push_state-r in
-    (omega (arith, c.loop-i-test.true), push_stack q.words q.n _ c.args.s q.invariant.1 true r.result r.new.words r.ensures)
+    let r = c.push_state in
+    subst (λ (k : ℕ). Stack r.new.words k) (sym c.unwrap_or-n.ensures) (push_stack q.words q.n _ c.args.s q.invariant true r.result r.new.words r.ensures)

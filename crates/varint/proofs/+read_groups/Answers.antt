@@ -17,25 +17,25 @@ pub returns-then-m-eq0 : goal.returns-then-m-eq0
 returns-then-m-eq0 t c =
     let a = c.args in
     let b = get_or a.s.now a.at 0 in
-    let g = c.in-Number in
+    let g = c.in_ok-m in
     sym (read_more a.s.now a.left a.at (omega arith) (omega arith) c.if-left-eq0.false ∙ ap (joined b) (sym g.ensures) ∙ joined_zero b g.m g.e c.if-m-eq0.true)
 
 pub returns-then-m-ge33554432 : goal.returns-then-m-ge33554432
 returns-then-m-ge33554432 t c =
     let a = c.args in
     let b = get_or a.s.now a.at 0 in
-    let g = c.in-Number in
+    let g = c.in_ok-m in
     sym (read_more a.s.now a.left a.at (omega arith) (omega arith) c.if-left-eq0.false ∙ ap (joined b) (sym g.ensures) ∙ joined_large b g.m g.e (omega arith))
 
-pub returns-else-m-ge33554432 : goal.returns-else-m-ge33554432
-returns-else-m-ge33554432 t c =
+pub returns : goal.returns
+returns t c =
     let a = c.args in
     let b = get_or a.s.now a.at 0 in
-    let g = c.in-Number in
+    let g = c.in_ok-m in
     sym (read_more a.s.now a.left a.at (omega arith) (omega arith) c.if-left-eq0.false ∙ ap (joined b) (sym g.ensures) ∙ joined_fits b g.m g.e c.if-m-eq0.false (omega arith))
 
-pub returns-in-Bad : goal.returns-in-Bad
-returns-in-Bad t c =
+pub returns-in_err-m : goal.returns-in_err-m
+returns-in_err-m t c =
     let a = c.args in
     let b = get_or a.s.now a.at 0 in
-    sym (read_more a.s.now a.left a.at (omega arith) (omega arith) c.if-left-eq0.false ∙ ap (joined b) (sym c.in-Bad.ensures))
+    c.from_residual.ensures ∙ sym (read_more a.s.now a.left a.at (omega arith) (omega arith) c.if-left-eq0.false ∙ ap (joined b) (sym c.read_groups.ensures ∙ c.in_err-m.was))

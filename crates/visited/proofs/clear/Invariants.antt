@@ -1,13 +1,9 @@
 -- `visited::clear` meets its contract.
 use mathlib.Core.Path.{◌≡◌}
-use Prim.Native.Nat.{◌-◌, ◌*◌, ◌≤◌}
-use lib.ListN.{length}
+use Prim.Native.Nat.{◌-◌, ◌*◌}
 use Rattle.visited.specs.Bits.{cleared}
 use Rattle.visited.proofs.Clearing.{partly}
 use Rattle.visited.proofs.clear.Given as goal
 
-abbrev pub invariant-loop-i : goal.invariant-loop-i
-invariant-loop-i l = (l.i ≤ length l.map) × (length l.map ≡ length l.initial.map) × (l.left ≡ l.n - l.i * 32) × (partly l.map l.n l.i ≡ cleared l.initial.map l.n)
-
-abbrev pub decreases-loop-i : goal.decreases-loop-i
-decreases-loop-i l = length l.initial.map - l.i
+abbrev pub invariant-loop-word : goal.invariant-loop-word
+invariant-loop-word l = (l.left ≡ l.n - l.word-index * 32) × (partly l.word-items l.n l.word-index ≡ cleared l.initial.word-items l.n)

@@ -1,11 +1,7 @@
 -- `visited::mark_run` meets its contract.
 use mathlib.Core.Path.{◌≡◌}
-use Prim.Native.Nat.{◌-◌, ◌≤◌}
 use Rattle.visited.specs.Bits.{with_run}
 use Rattle.visited.proofs.mark_run.Given as goal
 
 abbrev pub invariant-loop-j : goal.invariant-loop-j
-invariant-loop-j l = (l.j ≤ l.k) × (l.map ≡ with_run l.initial.map l.b l.j)
-
-abbrev pub decreases-loop-j : goal.decreases-loop-j
-decreases-loop-j l = l.k - l.j
+invariant-loop-j l = l.map ≡ with_run l.initial.map l.b l.j

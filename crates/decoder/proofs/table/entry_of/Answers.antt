@@ -9,22 +9,28 @@ use Rattle.decoder.proofs.Columns.{listed, row_extended, row_primary}
 use Rattle.decoder.proofs.table.entry_of.Goals as goal
 
 pub returns-then-p-eq31 : goal.returns-then-p-eq31
+unfolding tabulate rows first
 returns-then-p-eq31 c =
     let w = c.args.w in
-    c.under_31.ensures
-    ∙ ap (λ (x : ℕ). coded (first rows 31 x)) c.xo-x.ensures
+    let x : ℕ = c.xo-x.result in
+    let h : x < 1024 = omega arith in
+    listed (λ (y : ℕ). coded (first rows 31 y)) 1024 x h
+    ∙ ap (λ (y : ℕ). coded (first rows 31 y)) c.xo-x.ensures
     ∙ ap coded (row_extended w 31 (sym c.opcd-p.ensures ∙ c.if-p-eq31.true) refl)
 
 pub returns-then-p-eq19 : goal.returns-then-p-eq19
+unfolding tabulate rows first
 returns-then-p-eq19 c =
     let w = c.args.w in
-    c.under_19.ensures
-    ∙ ap (λ (x : ℕ). coded (first rows 19 x)) c.xo-x.ensures
+    let x : ℕ = c.xo-x.result in
+    let h : x < 1024 = omega arith in
+    listed (λ (y : ℕ). coded (first rows 19 y)) 1024 x h
+    ∙ ap (λ (y : ℕ). coded (first rows 19 y)) c.xo-x.ensures
     ∙ ap coded (row_extended w 19 (sym c.opcd-p.ensures ∙ c.if-p-eq19.true) refl)
 
-pub returns : goal.returns
+pub returns-else-p-eq19 : goal.returns-else-p-eq19
 unfolding tabulate rows first
-returns c =
+returns-else-p-eq19 c =
     let w = c.args.w in
     let p : ℕ = c.opcd-p.result in
     let e : p ≡ field w 0 5 = c.opcd-p.ensures in

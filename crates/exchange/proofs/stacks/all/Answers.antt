@@ -11,5 +11,5 @@ fewer_held words n m st l = down (n - m) m (let e : m + (n - m) ≡ n = omega ar
     down zero m s = let e : m + 0 ≡ m = omega arith in rw e at s
     down (suc k) m s = down k m (pop_stack words (m + k) (let e : m + k + 1 ≡ m + suc k = omega arith in rw e s))
 
-pub one-at-requires : goal.one-at-requires
-one-at-requires c = (fewer_held _ c.args.count _ c.requires (omega arith), omega arith)
+pub one-requires : goal.one-requires
+one-requires c = (fewer_held _ c.args.count _ c.requires (omega arith), omega arith)

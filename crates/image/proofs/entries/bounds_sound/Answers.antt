@@ -1,28 +1,9 @@
--- `image::entries::bounds_sound` meets its contract: the relocations passed are all sound.
-use mathlib.Core.Path.{sym, ap, ◌∙◌}
-use native.Mathlib.Omega.{arith}
-use Rattle.search.proofs.Answers.{passed, failed}
-use Rattle.search.proofs.EveryLaws.{every_none, every_more, every_fails, every_done}
-use Rattle.image.specs.Rules.{bound_sound, bounds_sound}
-use Rattle.image.proofs.entries.bounds_sound.Invariants.{sound_at}
+-- `image::entries::bounds_sound` meets its contract: the closure tests one record.
+use Rattle.std.proofs.Common.{rules}
+use Rattle.search.proofs.Chains.{every_from_all}
 use Rattle.image.proofs.entries.bounds_sound.Goals as goal
-
-pub loop-j-init : goal.loop-j-init
-loop-j-init c = (omega arith, every_none _)
-
-pub returns-then-not-bound_sound : goal.returns-then-not-bound_sound
-unfolding bounds_sound
-returns-then-not-bound_sound c =
-    let a = c.args in
-    sym (every_fails (sound_at a.im.now) _ c.loop-j.j (omega arith) (failed (c.bound_sound.ensures ∙ ap (bound_sound a.im.now) c.bound.ensures) c.if-not-bound_sound.true-raw))
-
-pub loop-j-preserved : goal.loop-j-preserved
-loop-j-preserved c =
-    let a = c.args in
-    (omega arith, every_more (sound_at a.im.now) c.loop-j.j c.loop-j.invariant.1 (passed (c.bound_sound.ensures ∙ ap (bound_sound a.im.now) c.bound.ensures) c.if-not-bound_sound.false-raw))
+use Rattle.image.specs.Rules.{bounds_sound}
 
 pub returns : goal.returns
 unfolding bounds_sound
-returns c =
-    let a = c.args in
-    sym (every_done (sound_at a.im.now) _ c.loop-j.j (omega arith) c.loop-j.invariant.1)
+returns c = every_from_all _ _ _ _ _ c.all.ensures.ran (cc) (λ i b q k. search rules)

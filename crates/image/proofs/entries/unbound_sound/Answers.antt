@@ -8,4 +8,4 @@ use Rattle.image.proofs.entries.unbound_sound.Goals as goal
 pub section-requires : goal.section-requires
 section-requires c =
     let a = c.args in
-    omega (arith, first_below (has_elf a.im.now a.r.section) _ _ (sym c.elf_index-found.ensures ∙ c.in-At.is))
+    omega (arith, first_below (has_elf a.im.now a.r.section) _ _ (sym c.elf_index.ensures ∙ c.in-Some.is))

@@ -9,6 +9,3 @@ use Rattle.image_file.proofs.copies.copy_starts.Given as goal
 abbrev pub invariant-loop-i : goal.invariant-loop-i
 invariant-loop-i l =
     (l.i ≤ l.n) × (length l.out ≡ length l.initial.out) × (sets l.out l.i (keys_from l.file (l.from + l.i * 8) (l.n - l.i)) ≡ sets l.initial.out 0 (keys_from l.file l.from l.n))
-
-abbrev pub decreases-loop-i : goal.decreases-loop-i
-decreases-loop-i l = l.n - l.i

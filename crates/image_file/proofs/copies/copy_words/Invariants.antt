@@ -9,6 +9,3 @@ use Rattle.image_file.proofs.copies.copy_words.Given as goal
 abbrev pub invariant-loop-i : goal.invariant-loop-i
 invariant-loop-i l =
     (l.i ≤ l.n) × (length l.out ≡ length l.initial.out) × (sets l.out l.i (words_from l.file (56 + l.i * 4) (l.n - l.i)) ≡ sets l.initial.out 0 (words_from l.file 56 l.n))
-
-abbrev pub decreases-loop-i : goal.decreases-loop-i
-decreases-loop-i l = l.n - l.i

@@ -14,5 +14,5 @@ pub overflow_cast-result : goal.overflow_cast-result
 overflow_cast-result c =
     let a = c.args in
     let s = sound_tables a.im.now c.requires in
-    let below = first_below (held a.im.now a.v) (sections a.im.now) c.in-At.i (sym c.at_address.ensures ∙ c.in-At.is) in
+    let below = first_below (held a.im.now a.v) (sections a.im.now) c.in-Some.i (sym c.at_address.ensures ∙ c.in-Some.is) in
     record { fits = omega arith }

@@ -19,16 +19,16 @@ pub bound-requires : goal.bound-requires
 bound-requires c =
     let a = c.args in
     let s = sound_tables a.im.now c.requires in
-    let b = first_below (bound_here a.im.now a.at) (bounds a.im.now) c.in-At.j (sym c.bound_index.ensures ∙ c.in-At.is) in
+    let b = first_below (bound_here a.im.now a.at) (bounds a.im.now) c.in-Some.j (sym c.bound_index.ensures ∙ c.in-Some.is) in
     omega arith
 
 pub section-requires : goal.section-requires
 section-requires c = let s = sound_tables c.args.im.now c.requires in omega (arith, c.section_count.ensures)
 
-pub returns-in-At : goal.returns-in-At
+pub returns-in-Some : goal.returns-in-Some
 unfolding relocation_for
-returns-in-At c = rw (c.bound_target.ensures, c.bound.ensures, lt-ltb c.args.at.section (sections c.args.im.now) (omega (arith, c.section_count.ensures)), sym c.bound_index.ensures ∙ c.in-At.is)
+returns-in-Some c = rw (c.bound_target.ensures, c.bound.ensures, lt-ltb c.args.at.section (sections c.args.im.now) (omega (arith, c.section_count.ensures)), sym c.bound_index.ensures ∙ c.in-Some.is)
 
-pub returns-in-Nothing : goal.returns-in-Nothing
+pub returns-in-None : goal.returns-in-None
 unfolding relocation_for
-returns-in-Nothing c = rw (c.unbound_target_for.ensures, c.section.ensures, lt-ltb c.args.at.section (sections c.args.im.now) (omega (arith, c.section_count.ensures)), sym c.bound_index.ensures ∙ c.in-Nothing.is)
+returns-in-None c = rw (c.unbound_target_for.ensures, c.section.ensures, lt-ltb c.args.at.section (sections c.args.im.now) (omega (arith, c.section_count.ensures)), sym c.bound_index.ensures ∙ c.in-None.is)

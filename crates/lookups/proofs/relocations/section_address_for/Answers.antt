@@ -3,10 +3,10 @@ use Rattle.lookups.specs.Relocations.{section_address_for}
 use mathlib.Core.Path.{sym, ◌∙◌}
 use Rattle.lookups.proofs.relocations.section_address_for.Goals as goal
 
-pub returns-in-Known : goal.returns-in-Known
+pub returns-in-Some : goal.returns-in-Some
 unfolding section_address_for
-returns-in-Known c = rw (sym c.target_at.ensures ∙ c.in-Known.is)
+returns-in-Some c = rw (sym c.target_at.ensures ∙ c.in-Some.is)
 
-pub returns-in-Missing : goal.returns-in-Missing
+pub returns-in-None : goal.returns-in-None
 unfolding section_address_for
-returns-in-Missing c = rw (c.bare_address.ensures, sym c.target_at.ensures ∙ c.in-Missing.is)
+returns-in-None c = rw (c.bare_address.ensures, sym c.target_at.ensures ∙ c.in-None.is)

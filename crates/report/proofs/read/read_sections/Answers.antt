@@ -24,14 +24,15 @@ loop-i-preserved c =
     let a = c.args in
     let h = c.loop-i in
     let r = c.read_section.ensures in
-    (omega arith, section_read a.im.now a.s.now a.at a.map.now h.map h.p h.b h.i h.invariant.1 _ c.in-At.e _ (omega (arith, c.section_count-n.ensures)) c.words_at-c.ensures (sym c.in-At.is ∙ r.0) r.1)
+    (omega arith, section_read a.im.now a.s.now a.at a.map.now h.map h.p h.b h.i h.invariant.1 _ _ _ (omega (arith, c.section_count-n.ensures)) c.words_at-c.ensures (sym c.in_ok-p.was ∙ r.0) r.1)
 
-pub returns-in-Lost : goal.returns-in-Lost
-returns-in-Lost c =
+pub returns-in_err-p : goal.returns-in_err-p
+returns-in_err-p c =
     let a = c.args in
     let h = c.loop-i in
     let r = c.read_section.ensures in
-    section_lost a.im.now a.s.now a.at a.map.now h.map h.p h.b h.i h.invariant.1 _ _ (omega (arith, c.section_count-n.ensures)) c.words_at-c.ensures (sym c.in-Lost.is ∙ r.0) r.1
+    let l = section_lost a.im.now a.s.now a.at a.map.now h.map h.p h.b h.i h.invariant.1 _ _ (omega (arith, c.section_count-n.ensures)) c.words_at-c.ensures (sym c.in_err-p.was ∙ r.0) r.1 in
+    (c.from_residual.ensures ∙ l.0, l.1)
 
 pub returns : goal.returns
 returns c =

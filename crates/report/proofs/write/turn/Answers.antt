@@ -7,8 +7,8 @@ use Rattle.report.proofs.write.turn.Goals as goal
 pub returns-then-v : goal.returns-then-v
 returns-then-v c = let a = c.args in rw c.if-v.true (turned_run a.buf.now a.s)
 
-pub returns-then-len-eq0 : goal.returns-then-len-eq0
-returns-then-len-eq0 c = let a = c.args in rw c.if-v.false (turned_gap a.buf.now a.s c.if-len-eq0.true)
+pub returns-then-s-eq0 : goal.returns-then-s-eq0
+returns-then-s-eq0 c = let a = c.args in rw c.if-v.false (turned_gap a.buf.now a.s c.if-s-eq0.true)
 
 pub put-q-requires : goal.put-q-requires
 put-q-requires c = let a = c.args in omega (arith, groups_short 4 a.s.gap)
@@ -16,4 +16,4 @@ put-q-requires c = let a = c.args in omega (arith, groups_short 4 a.s.gap)
 pub returns : goal.returns
 returns c =
     let a = c.args in
-    rw c.if-v.false (turned_end a.buf.now a.s _ _ _ _ c.if-len-eq0.false c.put-p.ensures c.put-q.ensures)
+    rw c.if-v.false (turned_end a.buf.now a.s _ _ _ _ c.if-s-eq0.false c.put-p.ensures c.put-q.ensures)

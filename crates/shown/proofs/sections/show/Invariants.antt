@@ -1,12 +1,9 @@
 -- `shown::sections::show` meets its contract.
 use Rattle.image.specs.Rules.{words_before}
 use Rattle.image.specs.Layout.{sections}
-use Prim.Native.Nat.{◌-◌, ◌≤◌}
+use Prim.Native.Nat.{◌≤◌}
 use mathlib.Core.Path.{◌≡◌}
 use Rattle.shown.proofs.sections.show.Given as goal
 
 abbrev pub invariant-loop-i : goal.invariant-loop-i
 invariant-loop-i g l = (l.i ≤ sections l.im) × (l.base ≡ words_before l.im l.i)
-
-abbrev pub decreases-loop-i : goal.decreases-loop-i
-decreases-loop-i g l = l.n - l.i

@@ -1,26 +1,37 @@
--- The loop's invariant: the numbers passed differ. The measure is the numbers that are left.
-use mathlib.Core.Bool.{not}
-use mathlib.Core.Path.{◌≡◌, refl, sym, ◌∙◌}
-use Prim.Native.Nat.{ℕ}
+-- A number stands among others exactly where one of them is it.
+use mathlib.Core.Bool.{Bool, true, false, not, ◌&&◌, ◌||◌}
+use mathlib.Core.List.{List}
+use mathlib.Core.Path.{◌≡◌, refl, ap, ◌∙◌}
+use Prim.Native.Nat.{ℕ, zero, suc, ◌+◌, ◌-◌, ◌≤◌}
+use native.Mathlib.Numerals.{add-one}
 use native.Mathlib.Omega.{arith}
 use lib.Dec.{eqb}
-use borrow.Author.Tests.{eq-eqb, ne_eqb}
-use Rattle.search.proofs.EveryLaws.{every_none, every_more, every_fails}
-use Rattle.stack.specs.Stack.{order_at}
+use lib.ListN.{length, get_or, take, drop, length-drop}
+use lib.Seq.{get_or-drop}
+use Rattle.search.specs.Every.{every}
+use Rattle.std.proofs.lemmas.List.Folds.{list_any_more}
+use Rattle.std.specs.List.{list_any}
 use Rattle.stack.proofs.judge.is_fresh.Goals as goal
 
-pub loop-j-init : goal.loop-j-init
-loop-j-init c = (omega arith, every_none _, refl)
+none_of : (a b : Bool) → not (a || b) ≡ (not a && not b)
+none_of true b = refl
+none_of false b = refl
 
-pub returns-then-words-j : goal.returns-then-words-j
-returns-then-words-j c =
-    let ws = c.args.words.now in
-    let q = c.loop-j in
-    let same : order_at ws q.j ≡ order_at ws c.args.i = c.if-words-j.true ∙ q.invariant.2 in
-    sym (every_fails (λ (k : ℕ). not (eqb (order_at ws k) (order_at ws c.args.i))) c.args.i q.j (omega arith) (rw (eq-eqb _ _ same)))
+fresh_among : (ws : List ℕ) (x i : ℕ) → 2 + i ≤ length ws → not (list_any (λ y. eqb y x) (take i (drop 2 ws))) ≡ every (λ j. not (eqb (get_or ws (2 + j) 0) x)) i
+unfolding every
+fresh_among ws x zero h = refl
+fresh_among ws x (suc i) h =
+    let l : List ℕ = drop 2 ws in
+    let f : ℕ → Bool = λ y. eqb y x in
+    let one = list_any_more {X = ℕ} f l i 0 (omega (arith, length-drop 2 ws)) in
+    let more : list_any f (take (suc i) l) ≡ (list_any f (take i l) || f (get_or l i 0)) = rw (add-one i) at one in
+    ap not more ∙ none_of (list_any f (take i l)) (f (get_or l i 0)) ∙ rw (fresh_among ws x i (omega arith), get_or-drop 2 ws i 0)
 
-pub loop-j-preserved : goal.loop-j-preserved
-loop-j-preserved c =
-    let ws = c.args.words.now in
-    let q = c.loop-j in
-    (omega arith, every_more (λ (k : ℕ). not (eqb (order_at ws k) (order_at ws c.args.i))) q.j q.invariant.1 (rw (ne_eqb (order_at ws q.j) (order_at ws c.args.i) (λ e. c.if-words-j.false (e ∙ sym q.invariant.2)))), q.invariant.2)
+pub returns : goal.returns
+returns c =
+    let ws : List ℕ = c.args.words.now in
+    let x : ℕ = get_or ws (2 + c.args.i) 0 in
+    let long : 2 + c.args.i - 2 ≡ c.args.i = omega arith in
+    ap not c.contains.ensures.value
+    ∙ ap (λ (n : ℕ). not (list_any (λ y. eqb y x) (take n (drop 2 ws)))) long
+    ∙ fresh_among ws x c.args.i (omega arith)

@@ -1,4 +1,4 @@
--- The loop's invariant: the slots passed are well written. The measure is the slots that are left.
+-- The loop's invariant: the slots passed are well written.
 use mathlib.Core.Path.{sym, ap, ◌∙◌}
 use Prim.Native.Nat.{ℕ}
 use native.Mathlib.Omega.{arith}
@@ -10,7 +10,7 @@ use Rattle.stack.proofs.RoomLaws.{room_fits}
 use Rattle.stack.proofs.judge.is_held.Goals as goal
 
 pub loop-i-init : goal.loop-i-init
-loop-i-init c = (omega arith, every_none _)
+loop-i-init c = every_none _
 
 pub overflow_add-i : goal.overflow_add-i
 overflow_add-i c =
@@ -40,10 +40,10 @@ pub loop-i-preserved : goal.loop-i-preserved
 loop-i-preserved c =
     let ws = c.args.words.now in
     let q = c.loop-i in
-    (omega arith, every_more (λ (k : ℕ). is_slot ws (slot_at ws (order_at ws k))) q.i q.invariant.1 (ap (is_slot ws) (sym c.slot_at.ensures) ∙ sym c.is_slot.ensures ∙ c.if-is_slot.true))
+    every_more (λ (k : ℕ). is_slot ws (slot_at ws (order_at ws k))) q.i q.invariant (ap (is_slot ws) (sym c.slot_at.ensures) ∙ sym c.is_slot.ensures ∙ c.if-not-is_slot.false)
 
-pub returns-else-is_slot : goal.returns-else-is_slot
-returns-else-is_slot c =
+pub returns-then-not-is_slot : goal.returns-then-not-is_slot
+returns-then-not-is_slot c =
     let ws = c.args.words.now in
     let q = c.loop-i in
-    sym (every_fails (λ (k : ℕ). is_slot ws (slot_at ws (order_at ws k))) c.args.n q.i (omega arith) (ap (is_slot ws) (sym c.slot_at.ensures) ∙ sym c.is_slot.ensures ∙ c.if-is_slot.false))
+    sym (every_fails (λ (k : ℕ). is_slot ws (slot_at ws (order_at ws k))) c.args.n q.i (omega arith) (ap (is_slot ws) (sym c.slot_at.ensures) ∙ sym c.is_slot.ensures ∙ c.if-not-is_slot.true))

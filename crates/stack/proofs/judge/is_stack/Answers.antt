@@ -46,7 +46,7 @@ is_ordered-requires c =
     let n = c.args.count in
     let some : 0 < n = (elim (dec_lt 0 n) [ yes p ↦ p | no p ↦ absurd (c.if-count-eq0.false (omega arith)) ]) in
     let is = c.room_of-room.ensures in
-    let low = named_low ws (get_or ws 0 0) (sym c.is_named.ensures ∙ c.if-is_named.true) in
+    let low = named_low ws (get_or ws 0 0) (sym c.is_named.ensures ∙ c.if-not-is_named.false) in
     (omega (arith, c.sorted_of.ensures, c.if-room-count.false), λ i h. omega (arith, c.sorted_of.ensures, c.if-high-count.false, c.if-room-high.false, low i (omega (arith, c.sorted_of.ensures, c.if-high-count.false))))
 
 pub is_held-requires : goal.is_held-requires
@@ -55,5 +55,5 @@ is_held-requires c =
     let n = c.args.count in
     let some : 0 < n = (elim (dec_lt 0 n) [ yes p ↦ p | no p ↦ absurd (c.if-count-eq0.false (omega arith)) ]) in
     let is = c.room_of-room.ensures in
-    let low = named_low ws (get_or ws 0 0) (sym c.is_named.ensures ∙ c.if-is_named.true) in
+    let low = named_low ws (get_or ws 0 0) (sym c.is_named.ensures ∙ c.if-not-is_named.false) in
     (omega (arith, c.if-room-count.false), λ i h. omega (arith, c.if-room-high.false, low i (omega (arith, c.if-high-count.false))))

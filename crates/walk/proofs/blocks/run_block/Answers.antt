@@ -2,46 +2,40 @@
 -- Assumes a sound image.
 use mathlib.Core.Path.{sym, ◌∙◌}
 use native.Mathlib.Omega.{arith}
-use lib.ListN.{length}
-use Rattle.cells.specs.Cells.{state_of, Cells}
-use Rattle.cells.proofs.CellLaws.{cells_long}
+use Rattle.cells.specs.Cells.{state_of}
 use Rattle.runs.proofs.Carrying.{cells_own}
-use borrow.Author.Rules.{rules}
-use Rattle.places.specs.declared.MaybeAddress.TheVariants.{Nowhere}
-use Rattle.image.proofs.SoundTables.{tables_of_sound, data_of_sound}
-use Rattle.turns.proofs.SoundGround.{fine_place}
-use Rattle.walk.proofs.BlockLaws.{halted, left_at, Within, block_begins, block_few, run_ahead, block_past, block_leaves, block_stays, block_falls, block_jumps}
+use Rattle.walk.proofs.BlockLaws.{halted, block_begins, block_few, run_ahead, block_past, block_leaves, block_stays, block_falls, block_jumps}
 use Rattle.walk.proofs.blocks.run_block.Goals as goal
 
-pub loop-map-init : goal.loop-map-init
-loop-map-init c = let a = c.args in (block_begins a.im.now a.bytes.now a.from (state_of a.cells.now) a.map.now c.requires.2, c.requires.3)
+pub loop-l-init : goal.loop-l-init
+loop-l-init c = let a = c.args in (block_begins a.im.now a.bytes.now a.from (state_of a.cells.now) a.map.now c.requires.2, c.requires.3)
 
 pub overflow_sub-many : goal.overflow_sub-many
-overflow_sub-many c = run_ahead c.requires.0 c.requires.1 c.loop-map.invariant.0 (rw c.data_from-code.ensures.result_value at ((halted c.run-r.ensures)))
+overflow_sub-many c = run_ahead c.requires.0 c.requires.1 c.loop-l.invariant.0 (rw c.data_from-code.ensures.result_value at ((halted c.run-r.ensures)))
 
 pub overflow_add-result : goal.overflow_add-result
-overflow_add-result c = record { fits = omega (arith, (block_few c.requires.0 c.requires.1 c.loop-map.invariant.0).1, c.struct_known-1.given, c.struct_known-in-loop-map-1.given) }
+overflow_add-result c = record { fits = omega (arith, (block_few c.requires.0 c.requires.1 c.loop-l.invariant.0).1) }
 
 pub returns-then-is_ended : goal.returns-then-is_ended
-returns-then-is_ended c = (cells_own c.run-r.ensures.cells, rw (c.mark_run.ensures, c.word_number-w.ensures) (block_past c.requires.0 c.requires.1 c.loop-map.invariant.0 (rw c.data_from-code.ensures.result_value at ((halted c.run-r.ensures))) (sym c.is_ended.ensures ∙ c.if-is_ended.true)))
+returns-then-is_ended c = (cells_own c.run-r.ensures.cells, rw (c.mark_run.ensures, c.word_number-w.ensures) (block_past c.requires.0 c.requires.1 c.loop-l.invariant.0 (rw c.data_from-code.ensures.result_value at ((halted c.run-r.ensures))) (sym c.is_ended.ensures ∙ c.if-is_ended.true)))
 
 pub overflow_add-stepped : goal.overflow_add-stepped
-overflow_add-stepped c = record { fits = omega (arith, (block_few c.requires.0 c.requires.1 c.loop-map.invariant.0).1, c.struct_known-1.given, c.struct_known-in-loop-map-1.given) }
+overflow_add-stepped c = record { fits = omega (arith, (block_few c.requires.0 c.requires.1 c.loop-l.invariant.0).1) }
 
-pub overflow_add-stepped-in-loop-map : goal.overflow_add-stepped-in-loop-map
-overflow_add-stepped-in-loop-map c = record { fits = omega (arith, (block_few c.requires.0 c.requires.1 c.loop-map.invariant.0).1, c.struct_known-1.given, c.struct_known-in-loop-map-1.given) }
+pub overflow_add-stepped-in-loop-l : goal.overflow_add-stepped-in-loop-l
+overflow_add-stepped-in-loop-l c = record { fits = omega (arith, (block_few c.requires.0 c.requires.1 c.loop-l.invariant.0).1) }
 
-pub returns-in-Nowhere : goal.returns-in-Nowhere
-returns-in-Nowhere c = (cells_own c.run-r.ensures.cells, rw (c.mark_run-in-loop-map.ensures, c.word_number-w.ensures) (block_leaves c.requires.0 c.requires.1 c.loop-map.invariant.0 (rw c.data_from-code.ensures.result_value at ((halted c.run-r.ensures))) (sym c.is_ended.ensures ∙ c.if-is_ended.false) (sym c.jump_in.ensures ∙ c.in-Nowhere.is)))
+pub returns-in-None : goal.returns-in-None
+returns-in-None c = (cells_own c.run-r.ensures.cells, rw (c.mark_run-in-loop-l.ensures, c.word_number-w.ensures) (block_leaves c.requires.0 c.requires.1 c.loop-l.invariant.0 (rw c.data_from-code.ensures.result_value at ((halted c.run-r.ensures))) (sym c.is_ended.ensures ∙ c.if-is_ended.false) (sym c.jump_in.ensures ∙ c.in-None.is)))
 
 pub overflow_add-begun : goal.overflow_add-begun
-overflow_add-begun c = record { fits = omega (arith, (block_few c.requires.0 c.requires.1 c.loop-map.invariant.0).0) }
+overflow_add-begun c = record { fits = omega (arith, (block_few c.requires.0 c.requires.1 c.loop-l.invariant.0).0) }
 
-pub loop-map-smaller : goal.loop-map-smaller
-loop-map-smaller c = rw (c.mark_run-in-loop-map.ensures, c.word_number-w.ensures) (block_falls c.requires.0 c.requires.1 c.loop-map.invariant.0 (rw c.data_from-code.ensures.result_value at ((halted c.run-r.ensures))) (sym c.is_ended.ensures ∙ c.if-is_ended.false) (sym c.jump_in.ensures ∙ c.in-At.is) (sym (rw (c.mark_run-in-loop-map.ensures, c.word_number-w.ensures) at c.is_new.ensures) ∙ c.if-is_new.true))
+pub loop-l-smaller : goal.loop-l-smaller
+loop-l-smaller c = rw (c.mark_run-in-loop-l.ensures, c.word_number-w.ensures) (block_falls c.requires.0 c.requires.1 c.loop-l.invariant.0 (rw c.data_from-code.ensures.result_value at ((halted c.run-r.ensures))) (sym c.is_ended.ensures ∙ c.if-is_ended.false) (sym c.jump_in.ensures ∙ c.in-Some.is) (sym (rw (c.mark_run-in-loop-l.ensures, c.word_number-w.ensures) at c.is_new.ensures) ∙ c.if-is_new.true))
 
-pub loop-map-preserved : goal.loop-map-preserved
-loop-map-preserved c = (rw (c.mark_run-in-loop-map.ensures, c.word_number-w.ensures) (block_jumps c.requires.0 c.requires.1 c.loop-map.invariant.0 (rw c.data_from-code.ensures.result_value at ((halted c.run-r.ensures))) (sym c.is_ended.ensures ∙ c.if-is_ended.false) (sym c.jump_in.ensures ∙ c.in-At.is) (sym (rw (c.mark_run-in-loop-map.ensures, c.word_number-w.ensures) at c.is_new.ensures) ∙ c.if-is_new.true)), cells_own c.run-r.ensures.cells)
+pub loop-l-preserved : goal.loop-l-preserved
+loop-l-preserved c = (rw (c.mark_run-in-loop-l.ensures, c.word_number-w.ensures) (block_jumps c.requires.0 c.requires.1 c.loop-l.invariant.0 (rw c.data_from-code.ensures.result_value at ((halted c.run-r.ensures))) (sym c.is_ended.ensures ∙ c.if-is_ended.false) (sym c.jump_in.ensures ∙ c.in-Some.is) (sym (rw (c.mark_run-in-loop-l.ensures, c.word_number-w.ensures) at c.is_new.ensures) ∙ c.if-is_new.true)), cells_own c.run-r.ensures.cells)
 
-pub returns-in-At : goal.returns-in-At
-returns-in-At c = (cells_own c.run-r.ensures.cells, rw (c.mark_run-in-loop-map.ensures, c.word_number-w.ensures) (block_stays c.requires.0 c.requires.1 c.loop-map.invariant.0 (rw c.data_from-code.ensures.result_value at ((halted c.run-r.ensures))) (sym c.is_ended.ensures ∙ c.if-is_ended.false) (sym c.jump_in.ensures ∙ c.in-At.is) (sym (rw (c.mark_run-in-loop-map.ensures, c.word_number-w.ensures) at c.is_new.ensures) ∙ c.if-is_new.false)))
+pub returns-in-Some : goal.returns-in-Some
+returns-in-Some c = (cells_own c.run-r.ensures.cells, rw (c.mark_run-in-loop-l.ensures, c.word_number-w.ensures) (block_stays c.requires.0 c.requires.1 c.loop-l.invariant.0 (rw c.data_from-code.ensures.result_value at ((halted c.run-r.ensures))) (sym c.is_ended.ensures ∙ c.if-is_ended.false) (sym c.jump_in.ensures ∙ c.in-Some.is) (sym (rw (c.mark_run-in-loop-l.ensures, c.word_number-w.ensures) at c.is_new.ensures) ∙ c.if-is_new.false)))

@@ -1,7 +1,0 @@
--- A repeat is as long as it says.
-use Rattle.std.proofs.Common.{ℕ, sym}
-use Rattle.std.proofs.lemmas.List.{length-replicate}
-use Rattle.auditing.proofs.rooms.stack.Goals as goal
-
-pub returns : goal.returns
-returns c = sym (length-replicate {0} {A = ℕ} 1355778 0)

@@ -1,7 +1,0 @@
--- A repeat is as long as it says.
-use Rattle.std.proofs.Common.{ℕ, sym}
-use Rattle.std.proofs.lemmas.List.{length-replicate}
-use Rattle.exchange.proofs.rooms.raw.Goals as goal
-
-pub returns : goal.returns
-returns c = sym (length-replicate {0} {A = ℕ} 1320000 0)

@@ -1,5 +1,0 @@
-use Rattle.std.proofs.Common.{◌-◌}
-use Rattle.straight_vectors.proofs.before.Given as goal
-
-abbrev pub decreases-loop-r : goal.decreases-loop-r
-decreases-loop-r l = 32 - l.r
