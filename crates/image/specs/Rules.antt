@@ -144,7 +144,7 @@ sound ws n = tables_sound ws && data_inside ws n
 
 -- the answer, and its number in document 01: 1 for a broken rule
 abbrev pub broken : BrokenImage
-broken = record { }
+broken = record {}
 
 abbrev pub judged : List ℕ → ℕ → Result ⊤ BrokenImage
 judged ws n = pick (sound ws n) (Ok tt) (Err broken)

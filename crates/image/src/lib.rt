@@ -11,8 +11,8 @@ pub mod numbers;
 pub mod sections;
 pub mod table;
 
-ghost use Rattle.std.specs.Prelude.{◌≡◌, true, length, Ok, Err, IfOk, IfErr};
-ghost use Rattle.image.specs.Rules.{tables_sound, data_inside, judged};
+ghost use Rattle.std.specs.Prelude.{◌≡◌, true, false, length, IfOk, OnErr};
+ghost use Rattle.image.specs.Rules.{tables_sound, data_inside, sound, judged};
 
 // One section: its address, size, kind and elf number, and the place and length of its data in the buffer.
 #[derive(Clone, Copy)]
@@ -83,8 +83,8 @@ pub struct Image<'a> {
 impl<'a> Image<'a> {
     // The image of the caller's own words and data, for any words and bytes: an error exactly where a rule is broken.
     pub fn new(words: &'a [u32], data: &'a [u8]) -> Result<Image<'a>, BrokenImage>
-        ensures broken { IfErr result (λ e. judged words.now (length «data».now) ≡ Err e) }
-        ensures sound { IfOk result (λ im. (judged words.now (length «data».now) ≡ Ok tt) × (im.words ≡ words.entry) × (im.«data» ≡ «data».entry)) }
+        ensures broken { OnErr result (sound words.now (length «data».now) ≡ false) }
+        ensures whole { IfOk result (λ im. (sound words.now (length «data».now) ≡ true) × (im.words ≡ words.entry) × (im.«data» ≡ «data».entry)) }
     {
         check_image(words, data)?;
         Ok(Image { words, data })

@@ -35,7 +35,7 @@ abbrev pub Relocation : Type 0
 Relocation = Result (Option RelocationTarget) RelocationError
 
 abbrev pub relocation_error : RelocationError
-relocation_error = record { }
+relocation_error = record {}
 
 -- another kind: an error, before External; no symbol section: External; else the symbol's address plus the addend
 abbrev pub bound_target : Wanted → Bound → Relocation
