@@ -82,8 +82,14 @@ pub enum Effect {
     FromLr,
     FromCtr,
     // rA's record after it, and what it reached; a Load also makes rD Unknown.
-    Load { base: Gpr, seen: Option<RelocationTarget> },
-    Store { base: Gpr, seen: Option<RelocationTarget> },
+    Load {
+        base: Gpr,
+        seen: Option<RelocationTarget>,
+    },
+    Store {
+        base: Gpr,
+        seen: Option<RelocationTarget>,
+    },
     Clear(Writes),
     Leaves(Way),
 }

@@ -33,7 +33,13 @@ pub fn addis(known: Option<RelocationTarget>, at: SectionAddress, w: u32, left: 
 
 // addi rD, rA, SIMM, and addic and addic., of which rA 0 is register 0
 #[tactic(auto, unfolding(crate::specs::Arms::addi_gpr))]
-pub fn addi(known: Option<RelocationTarget>, load_zero: bool, at: SectionAddress, w: u32, ga: Gpr) -> Gpr
+pub fn addi(
+    known: Option<RelocationTarget>,
+    load_zero: bool,
+    at: SectionAddress,
+    w: u32,
+    ga: Gpr,
+) -> Gpr
     ensures { result ≡ addi_gpr known load_zero at w ga }
 {
     match known {
