@@ -1,18 +1,15 @@
 -- One turn of the loop over blocks: a popped state is skipped, or its block runs and ends; what the code's loop keeps, and where it
 -- ends the answer. Assumes that nothing is refused.
 use Prim.Native.Nat.{ℕ, ◌+◌, ◌-◌, ◌*◌, ◌≤◌, ◌<◌}
-use mathlib.Core.Path.{◌≡◌, refl, sym, ◌∙◌}
+use mathlib.Core.Path.{◌≡◌, sym, ◌∙◌}
 use mathlib.Core.Bool.{Bool, true, false}
 use mathlib.Core.List.{List}
 use native.Mathlib.Omega.{arith}
 use lib.ListN.{length}
-use Rattle.std.specs.Prelude.{Some, None, ⊤, Result, Ok, Err, Option}
-use Rattle.words.specs.Choice.{pick}
+use Rattle.std.specs.Prelude.{Some, None, Result, Ok, Err, Option}
 use Rattle.places.specs.declared.SectionAddress.{SectionAddress}
 use Rattle.image.specs.Numbers.{max_code_words}
-use Rattle.image.specs.declared.BrokenImage.{BrokenImage}
-use Rattle.image.specs.Rules.{code_words, sound, broken}
-use Rattle.image.specs.Rules as image
+use Rattle.image.specs.Rules.{code_words, sound}
 use Rattle.lookups.specs.Code.{code_place, word_number}
 use Rattle.vm.specs.States.{bases_of}
 use Rattle.step.specs.declared.Leave.{Leave}
@@ -124,15 +121,9 @@ module _ (i : Given) (vis : List ℕ) (lent : Lent) (fine : judged i vis ≡ Ok 
       turn_follows (goes l o taken) = turn_takes l o taken
 
 -- a broken image is refused, and everything stays as it was
-of_broken : (i : Given) (vis : List ℕ) (e : BrokenImage) (b : Bool) → sound i.tables (length i.bytes) ≡ b
-    → ◌≡◌ {A = Result ⊤ BrokenImage} (pick b (Ok tt) (Err broken)) (Err e) → judged i vis ≡ Err error.BrokenImage
-of_broken i vis e true s q = let z : ◌≡◌ {A = ℕ} 0 1 = cc in absurd (omega arith)
-of_broken i vis e false s q = judged_1 i vis s
-
-pub walk_broken : (i : Given) (vis : List ℕ) (lent : Lent) {e : BrokenImage} → image.judged i.tables (length i.bytes) ≡ Err e
-    → walked i vis lent ≡ refused_with error.BrokenImage vis lent
+pub walk_broken : (i : Given) (vis : List ℕ) (lent : Lent) → sound i.tables (length i.bytes) ≡ false → walked i vis lent ≡ refused_with error.BrokenImage vis lent
 unfolding walked
-walk_broken i vis lent {e} q = rw (of_broken i vis e (sound i.tables (length i.bytes)) refl q)
+walk_broken i vis lent b = rw (judged_1 i vis b)
 
 -- what the loop keeps: from where it began, whatever the walk's starts were
 abbrev pub Kept : List ℕ → List ℕ → SectionAddress → Option SectionAddress → List ℕ → ℕ → List ℕ → Bool → List ℕ

@@ -6,7 +6,7 @@ use Rattle.walk.proofs.walk.Goals as goal
 
 pub returns-in-Ok : goal.returns-in-Ok
 returns-in-Ok c =
-    let same = rw c.in-Ok.is at c.new.ensures.sound in
+    let same = rw c.in-Ok.is at c.new.ensures.whole in
     rw (same.1, same.2) at c.walk_image.ensures
 
 pub returns-in-Err : goal.returns-in-Err
