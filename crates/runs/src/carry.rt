@@ -73,7 +73,13 @@ pub fn compared(w: u32, right: GprValue, signed: bool, cells: &mut [u32])
 }
 
 // Any effect: the state after it stands in the cells, or, where the word leaves, the state as it was.
-pub(crate) fn carry(im: &Image<'_>, at: SectionAddress, w: u32, e: Effect, cells: &mut [u32]) -> Leave
+pub(crate) fn carry(
+    im: &Image<'_>,
+    at: SectionAddress,
+    w: u32,
+    e: Effect,
+    cells: &mut [u32],
+) -> Leave
     requires { Cells cells.old (state_of cells.old) }
     ensures { Carries im.now.words.now at w e (state_of cells.old) result cells.new }
 {
