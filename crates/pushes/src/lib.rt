@@ -116,17 +116,7 @@ fn take_jump(
         return nothing(count);
     }
     if is_way(im, t) {
-        return take_target(
-            im,
-            from,
-            upto,
-            stack,
-            count,
-            entries,
-            t,
-            cells,
-            Made::Same,
-        );
+        return take_target(im, from, upto, stack, count, entries, t, cells, Made::Same);
     }
     nothing(count)
 }
