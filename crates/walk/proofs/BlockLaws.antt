@@ -38,8 +38,8 @@ use Rattle.walk.specs.Blocks.{jump_in, Block, past, jumps_out, jumps_old, leaves
 use Rattle.walk.proofs.Jumps.{Asks, leaver_asks}
 
 -- both rules on an image are all
-pub image_sound : {ws : List ℕ} {n : ℕ} → tables_sound ws ≡ true → data_inside ws n ≡ true → sound ws n ≡ true
-image_sound h i = rw (h, i)
+pub image_sound : (ws : List ℕ) (n : ℕ) → tables_sound ws ≡ true → data_inside ws n ≡ true → sound ws n ≡ true
+image_sound ws n h i = rw (h, i)
 
 -- the measure of a block's loop
 abbrev pub left_at : List ℕ → List ℕ → SectionAddress → VM → List ℕ → ℕ

@@ -64,9 +64,7 @@ pub fn walk(
     ensures { walked (given im.now «data».now (places_of starts.now) two thirteen from upto) map.old (record { stack = stack.old; entries = entries.old }) ≡ record { result = result; vis = map.new; lent = record { stack = stack.new; entries = entries.new } } }
 {
     match Image::new(im, data) {
-        Ok(im) => walk_image(
-            &im, starts, two, thirteen, from, upto, map, stack, entries,
-        ),
+        Ok(im) => walk_image(&im, starts, two, thirteen, from, upto, map, stack, entries),
         Err(_) => refused(WalkError::BrokenImage),
     }
 }
@@ -166,9 +164,7 @@ fn follow(
     ensures { Followed im.now.words.now im.now.«data».now from upto stack.old held entries.old (ending_of e (state_of state.now)) stack.new entries.new result }
 {
     match e.leave {
-        Some(leave) => take(
-            im, from, upto, stack, held, entries, e.at, leave, state,
-        ),
+        Some(leave) => take(im, from, upto, stack, held, entries, e.at, leave, state),
         None => Taken {
             held,
             full: false,

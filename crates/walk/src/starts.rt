@@ -1,5 +1,5 @@
 // What comes before the first block: judging, and the starts pushed.
-ghost use Rattle.std.specs.Prelude.{◌≡◌, Ok, Option};
+ghost use Rattle.std.specs.Prelude.{ℕ, ◌≡◌, Ok, Option};
 ghost use Rattle.places.specs.declared.SectionAddress.{SectionAddress};
 ghost use Rattle.lookups.specs.Code.{code_place};
 ghost use Rattle.turns.specs.Walks.{given, starts_judged, judged_by, judged};

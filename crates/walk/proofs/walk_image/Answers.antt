@@ -13,7 +13,7 @@ use Rattle.walk.proofs.HeadSteps.{turn_old, turn_follows, walk_refused, walk_hel
 use Rattle.walk.proofs.walk_image.Goals as goal
 
 pub returns-in-Err : goal.returns-in-Err
-returns-in-Err c = let a = c.args in walk_refused c.begin.ensures a.from a.upto a.entries.now c.in-Err.is
+returns-in-Err c = let a = c.args in rw c.refused.ensures (walk_refused c.begin.ensures a.from a.upto a.entries.now c.in-Err.is)
 
 pub returns-then-full : goal.returns-then-full
 returns-then-full c =
