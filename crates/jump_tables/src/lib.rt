@@ -1,6 +1,6 @@
 // Jump tables: the entries of a table, sized or guessed, ascending and distinct in a lent buffer.
 // An entry is one number, its section's index times 2^32 plus its address.
-#![tactic(auto, using(image::proofs::SoundTables::laid, image::proofs::SoundTables::sound_tables, search::proofs::FirstMatch::first_below), unfolding(crate::specs::Readings::sized_reading, crate::specs::Readings::guessed_reading, crate::specs::Tables::table_of, crate::specs::Tables::table_in, crate::specs::Tables::sized_table, crate::specs::Tables::guessed_table))]
+#![tactic(auto, using(image::proofs::SoundTables::laid, image::proofs::SoundTables::sound_tables, search::proofs::FirstMatch::first_below))]
 
 ghost use Rattle.std.specs.Prelude.{◌≡◌};
 ghost use Rattle.jump_tables.specs.Tables.{error_number, table_of};
@@ -81,6 +81,7 @@ pub struct Table {
 // after them, their count and the bytes passed. A size of 0 is none; the known size of an object symbol there beats it.
 // Broken (1) leaves the buffer as it was. Then, with the buffer all zeros: Ragged (8) where the size, cut to the section,
 // is no multiple of 4; at the first bad entry RelocationError (7) or PointsNowhere (9); Full (10) for more entries than room.
+#[tactic(auto, unfolding(crate::specs::Tables::table_of))]
 pub fn uniq_jump_table_entries(
     im: &[u32],
     bytes: &[u8],

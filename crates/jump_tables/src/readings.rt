@@ -10,6 +10,7 @@ use places::{RelocationTarget, SectionAddress, is_before};
 
 // The word at a place of a table whose size is known: Faulty (7), Nowhere (9), Skipped for a bare 0, or its Entry. Stopped
 // only where the section has no word there.
+#[tactic(auto, unfolding(crate::specs::Readings::sized_reading))]
 pub fn sized_reading(im: &Image<'_>, p: SectionAddress) -> Reading
     ensures { result ≡ sized_reading im.now.words.now im.now.«data».now p }
 {
@@ -21,6 +22,7 @@ pub fn sized_reading(im: &Image<'_>, p: SectionAddress) -> Reading
 }
 
 // The word at a place of a table whose size is guessed: Faulty (7), Stopped, or its Entry.
+#[tactic(auto, unfolding(crate::specs::Readings::guessed_reading))]
 pub fn guessed_reading(
     im: &Image<'_>,
     start: SectionAddress,
