@@ -11,7 +11,7 @@ use std::io;
 use std::io::Read;
 use std::rt::{Env, Files};
 use streams::read_full;
-use turns::{WalkAnswer, Walked};
+use turns::{WalkError, Walked};
 use walk::TABLE_ROOM;
 
 mod options;
@@ -139,11 +139,7 @@ fn walk_in<const WORDS: usize>(f: SoundFile, map: &mut [u32]) -> Walked
 }
 
 fn is_full(w: Walked) -> bool {
-    let answer = w.answer;
-    match answer {
-        WalkAnswer::StackFull => true,
-        _ => false,
-    }
+    matches!(w.answer, Err(WalkError::StackFull))
 }
 
 // What the walk answered, in the order in which a person wants it.
@@ -154,14 +150,13 @@ fn show<R: Print + Eprint + Env + Files>(
     w: Walked,
     o: Options,
 ) -> io::Result<()> {
-    let answer = w.answer;
-    match answer {
-        WalkAnswer::BrokenImage => refusals::broken_image(rt, f.im, f.data.len()),
-        WalkAnswer::NotCode => refusals::bad_start(rt, f.im, f.starts),
-        WalkAnswer::Misaligned => refusals::bad_start(rt, f.im, f.starts),
-        WalkAnswer::MapTooSmall => refusals::small_map(rt),
-        WalkAnswer::Done => show_all(rt, f, map, w, o, "ok"),
-        WalkAnswer::StackFull => show_all(rt, f, map, w, o, "answer 5"),
+    match w.answer {
+        Err(WalkError::BrokenImage) => refusals::broken_image(rt, f.im, f.data.len()),
+        Err(WalkError::NotCode) => refusals::bad_start(rt, f.im, f.starts),
+        Err(WalkError::Misaligned) => refusals::bad_start(rt, f.im, f.starts),
+        Err(WalkError::MapTooSmall) => refusals::small_map(rt),
+        Ok(()) => show_all(rt, f, map, w, o, "ok"),
+        Err(WalkError::StackFull) => show_all(rt, f, map, w, o, "answer 5"),
     }
 }
 

@@ -145,9 +145,5 @@ impl<'a> Words<'a> {
 }
 
 fn size(n: u32) -> Option<u32> {
-    if n == 0 {
-        None
-    } else {
-        Some(n)
-    }
+    if n == 0 { None } else { Some(n) }
 }

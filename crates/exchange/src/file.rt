@@ -178,6 +178,7 @@ pub fn judged(case: Case, line: &mut Line) {
     }
 }
 
+// By hand: there is no heap to format into, and the library has no writer into a lent slice.
 fn digit(n: u32) -> u8 {
     let d = (n % 16) as u8;
     if d < 10 { b'0' + d } else { b'a' + (d - 10) }

@@ -80,9 +80,7 @@ impl<'a> Line<'a> {
         match m {
             None => self.many(&[0, 0, 0]),
             Some(RelocationTarget::External) => self.many(&[1, 0, 0]),
-            Some(RelocationTarget::Address(p)) => {
-                self.many(&[2, p.section, p.address])
-            }
+            Some(RelocationTarget::Address(p)) => { self.many(&[2, p.section, p.address]) }
         }
     }
 

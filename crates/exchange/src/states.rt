@@ -1,6 +1,6 @@
 // A state in an answer: the items that differ from the default, their count in front.
-use places::SectionAddress;
 use crate::line::Line;
+use places::SectionAddress;
 use vm::{Cr, Gpr, GprValue, Held, VM};
 
 fn is_unknown(v: GprValue) -> bool {

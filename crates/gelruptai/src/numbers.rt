@@ -1,4 +1,5 @@
 // Answers as numbers: document 01's, and for broken rules and what is wrong with a file those of include/gelruptai.h.
+// Functions, no From: the header's numbers are this crate's, and the types are others'.
 ghost use Rattle.std.specs.Prelude.{◌≡◌};
 ghost use Rattle.turns.specs.Walks.{answer_of};
 ghost use Rattle.report.specs.Answers.{write_number, read_number};

@@ -14,7 +14,8 @@ pub mod table;
 ghost use Rattle.std.specs.Prelude.{◌≡◌, true, false, length, IfOk, OnErr};
 ghost use Rattle.image.specs.Rules.{tables_sound, data_inside, sound, judged};
 
-// One section: its address, size, kind and elf number, and the place and length of its data in the buffer.
+// One section: its address, size, kind and elf number, and the place and length of its data in the buffer. Its
+// kind is a number, no enum, and so are those below: an image's words may hold any, and rule 1 judges them.
 #[derive(Clone, Copy)]
 pub struct Section {
     pub address: u32,
@@ -56,11 +57,11 @@ pub struct Symbol {
     pub known: u32,
 }
 
-// What judging an image answers.
+// A rule on images is broken: document 01's 1.
 #[derive(Clone, Copy, Debug, PartialEq, Eq)]
 pub struct BrokenImage;
 
-// The judge of rule 1, for any words and bytes: `Broken`, document 01's 1, exactly where a rule is broken. Nothing is touched.
+// The judge of rule 1, for any words and bytes: BrokenImage, document 01's 1, exactly where a rule is broken. Nothing is touched.
 pub fn check_image(im: &[u32], data: &[u8]) -> Result<(), BrokenImage>
     ensures { result ≡ judged im.now (length «data».now) }
 {

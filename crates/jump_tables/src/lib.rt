@@ -15,7 +15,7 @@ pub mod tables;
 pub use readings::{guessed_reading, sized_reading};
 pub use tables::table_in;
 
-// How a table is read: by its size, or guessed within a function's start and its end, which may be missing.
+// How a table is read: by its size, or guessed within a function's start and its end, which may be missing. No Option: each is a way to read.
 #[derive(Clone, Copy)]
 pub enum How {
     Sized,

@@ -13,7 +13,7 @@ use places::SectionAddress;
 use words::bytes::four;
 
 // NotCode (2) unless the place's own section exists, is Code and holds it; then Misaligned (3) unless its address is a
-// multiple of 4; else Fine.
+// multiple of 4; else Ok.
 pub fn code_place(im: &Image<'_>, at: SectionAddress) -> Result<(), PlaceError>
     ensures { result ≡ code_place im.now.words.now at }
 {

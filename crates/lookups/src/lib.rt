@@ -24,14 +24,14 @@ pub enum Wanted {
     Other,
 }
 
-// What a relocation lookup answers.
+// What a relocation lookup answers: a target, or None where the tables have no entry.
 pub type Relocation = Result<Option<RelocationTarget>, RelocationError>;
 
-// A relocation that does not name a place.
+// An entry that names no place, or of another kind than was asked for.
 #[derive(Clone, Copy, Debug, PartialEq, Eq)]
 pub struct RelocationError;
 
-// A place judged as one of code.
+// Why a place is no code word: document 01's 2 and 3.
 #[derive(Clone, Copy, Debug, PartialEq, Eq)]
 pub enum PlaceError {
     NotCode,

@@ -13,7 +13,7 @@ use places::{RelocationTarget, SectionAddress};
 use search::first;
 use words::sum::wrapping_add;
 
-// What the tables say of a place: the bound one first, then the unbound one. Nothing where neither has an entry.
+// What the tables say of a place: the bound one first, then the unbound one. None where neither has an entry.
 // Error for another kind than the wanted one, for an unbound target in no section, and for an address of 2^32 or more.
 #[tactic(auto, using(image::proofs::SoundTables::sound_tables, search::proofs::FirstMatch::first_below), unfolding(crate::specs::Relocations::relocation_for))]
 pub fn relocation_target_for(im: &Image<'_>, at: SectionAddress, wanted: Wanted) -> Relocation
@@ -41,7 +41,7 @@ pub fn target_at(im: &Image<'_>, at: SectionAddress) -> Option<RelocationTarget>
 }
 
 // Where a value at an instruction points: the relocation there if any; else, Executable, the section that holds the
-// value; else the instruction's own section if it holds it; else Missing.
+// value; else the instruction's own section if it holds it; else None.
 #[tactic(auto, unfolding(crate::specs::Relocations::section_address_for))]
 pub fn section_address_for(
     im: &Image<'_>,

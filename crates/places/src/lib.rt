@@ -12,7 +12,7 @@ pub struct SectionAddress {
     pub address: u32,
 }
 
-// What a relocation points to.
+// What a relocation points to. The Rust's own enum, no Option: External is a target too.
 #[derive(Clone, Copy)]
 pub enum RelocationTarget {
     External,

@@ -5,7 +5,7 @@ use exchange::file::least;
 use exchange::line::Line;
 use exchange::stacks;
 use streams::room;
-use turns::{WalkAnswer, Walked};
+use turns::Walked;
 
 // A case's first words: the slots, how many words the map has and what fills it. The walk's own words follow.
 pub(crate) fn walk(case: Case, line: &mut Line) {
@@ -27,11 +27,7 @@ fn key(p: &mut Words) -> u64 {
 fn base(p: &mut Words) -> Option<u32> {
     let given = p.word() == 1;
     let number = p.word();
-    if given {
-        Some(number)
-    } else {
-        None
-    }
+    if given { Some(number) } else { None }
 }
 
 fn walk_in(case: Case, asked: Words, map: &mut [u32], stack: &mut [u32], line: &mut Line) {
@@ -62,22 +58,11 @@ fn walk_in(case: Case, asked: Words, map: &mut [u32], stack: &mut [u32], line: &
 }
 
 fn walked(w: Walked, map: &[u32], stack: &[u32], line: &mut Line) {
-    line.word(number(w.answer));
+    line.word(w.answer.map_or_else(u32::from, |_| 0));
     line.long(w.stepped);
     line.long(w.begun);
     line.long(w.read);
     line.long(w.not_read);
     line.many(map);
     stacks::held(stack, w.held, line);
-}
-
-fn number(a: WalkAnswer) -> u32 {
-    match a {
-        WalkAnswer::Done => 0,
-        WalkAnswer::BrokenImage => 1,
-        WalkAnswer::NotCode => 2,
-        WalkAnswer::Misaligned => 3,
-        WalkAnswer::MapTooSmall => 4,
-        WalkAnswer::StackFull => 5,
-    }
 }

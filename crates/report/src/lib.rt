@@ -3,7 +3,8 @@
 #![tactic(auto)]
 
 ghost use Rattle.std.specs.Prelude.{◌≡◌, length};
-ghost use Rattle.image.specs.Rules.{sound};
+ghost use Rattle.report.specs.declared.WriteError.TheVariants as write_why;
+ghost use Rattle.report.specs.declared.ReadError.TheVariants as read_why;
 ghost use Rattle.report.specs.Answers.{write_answer, write_leaves, write_error, read_answer, read_leaves, read_error};
 
 use image::BrokenImage;
@@ -67,13 +68,19 @@ impl From<ReadError> for u32 {
     }
 }
 
-// Whether the image is sound.
-fn is_sound(im: &[u32], data: &[u8]) -> bool
-    ensures { result ≡ sound im.now (length «data».now) }
-{
-    match image::check_image(im, data) {
-        Err(_) => false,
-        Ok(()) => true,
+impl From<BrokenImage> for WriteError {
+    ghost from_gives = { λ _ e. e ≡ write_why.BrokenImage };
+
+    fn from(_e: BrokenImage) -> WriteError {
+        WriteError::BrokenImage
+    }
+}
+
+impl From<BrokenImage> for ReadError {
+    ghost from_gives = { λ _ e. e ≡ read_why.BrokenImage };
+
+    fn from(_e: BrokenImage) -> ReadError {
+        ReadError::BrokenImage
     }
 }
 
@@ -88,9 +95,7 @@ pub fn write_report(
 ) -> Result<usize, WriteError>
     ensures { (result ≡ write_answer im.now (length «data».now) map.now (length out.old)) × (out.new ≡ write_leaves im.now (length «data».now) map.now out.old) }
 {
-    if !is_sound(im, data) {
-        return Err(WriteError::BrokenImage);
-    }
+    image::check_image(im, data)?;
     if !visited::has_room(map, image::code::code_words(im)) {
         return Err(WriteError::SmallMap);
     }
@@ -107,9 +112,7 @@ pub fn write_report(
 pub fn read_report(im: &[u32], data: &[u8], bytes: &[u8], map: &mut [u32]) -> Result<(), ReadError>
     ensures { (result ≡ read_answer im.now (length «data».now) bytes.now map.old) × (map.new ≡ read_leaves im.now (length «data».now) bytes.now map.old) }
 {
-    if !is_sound(im, data) {
-        return Err(ReadError::BrokenImage);
-    }
+    image::check_image(im, data)?;
     let w = image::code::code_words(im);
     if !visited::has_room(map, w) {
         return Err(ReadError::SmallMap);

@@ -27,9 +27,7 @@ fn store4(words: &mut [u32], at: usize, w: u32, x: u32, y: u32, z: u32)
 fn is_blank(g: Gpr) -> bool
     ensures { result ≡ true → g ≡ blank }
 {
-    matches!(g.hi_addr, None)
-        && matches!(g.lo_addr, None)
-        && matches!(g.value, GprValue::Unknown)
+    matches!(g.hi_addr, None) && matches!(g.lo_addr, None) && matches!(g.value, GprValue::Unknown)
 }
 
 // Nothing was compared.

@@ -7,7 +7,7 @@ pub mod rule;
 pub mod splits;
 pub mod state;
 
-use places::{SectionAddress, RelocationTarget};
+use places::{RelocationTarget, SectionAddress};
 
 // What is known of a register's value.
 #[derive(Clone, Copy)]
@@ -26,6 +26,7 @@ pub enum GprValue {
     // A word of the table at an address (a jump table).
     LoadIndexed {
         address: RelocationTarget,
+        // The largest offset, where it is known.
         max_offset: Option<u32>,
     },
 }
@@ -69,6 +70,7 @@ pub enum BranchTarget {
     Address(RelocationTarget),
     JumpTable {
         address: RelocationTarget,
+        // In bytes, where it is known.
         size: Option<u32>,
     },
 }

@@ -1,5 +1,6 @@
 // What each instruction makes of its operands' values.
-// One function a rule; specs/Rules.antt has each as a definition beside its assembly form.
+// One function a rule; specs/Rules.antt has each as a definition beside its assembly form. Those on two
+// constants stay a match each: one function of them all would take a closure with its contract, which is longer.
 ghost use Rattle.std.specs.Prelude.{◌≡◌, ◌<◌};
 ghost use Rattle.vm.specs.Rules.{offset_of, add_of, addis_of, addi_of, subf_of, subfic_of, ori_of, or_of, rotate_of, rlwnm_of, non_zero, max_offset_of, lwzx_of, size_of, base_of};
 
@@ -113,11 +114,7 @@ pub fn rlwnm(value: GprValue, amount: GprValue, mask: u32) -> GprValue
 pub fn non_zero(n: u32) -> Option<u32>
     ensures { result ≡ non_zero n }
 {
-    if n == 0 {
-        None
-    } else {
-        Some(n)
-    }
+    if n == 0 { None } else { Some(n) }
 }
 
 // What an index tells of the largest offset: a Range's max, if it is a multiple of 4 and 4 more still counts.

@@ -74,6 +74,7 @@ pub(crate) fn run_block(
     let mut p = from;
     let mut stepped: u64 = 0;
     let mut begun: u64 = 0;
+    // No for: a block goes on by its jumps.
     loop {
         let code = lookups::data_from(im, p);
         let r = runs::run(im, code, p, cells);

@@ -110,6 +110,7 @@ fn walk_image(
     let mut begun: u64 = 0;
     let mut read: u64 = 0;
     let mut not_read: u64 = 0;
+    // No for: how many states will wait is not known before.
     loop {
         if full {
             return Walked {

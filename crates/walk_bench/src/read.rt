@@ -56,20 +56,12 @@ impl<'a> Words<'a> {
     pub(crate) fn maybe_place(&mut self) -> Option<SectionAddress> {
         let there = self.word() != 0;
         let place = self.place();
-        if there {
-            Some(place)
-        } else {
-            None
-        }
+        if there { Some(place) } else { None }
     }
 
     pub(crate) fn base(&mut self) -> Option<u32> {
         let given = self.word() != 0;
         let number = self.word();
-        if given {
-            Some(number)
-        } else {
-            None
-        }
+        if given { Some(number) } else { None }
     }
 }
