@@ -72,22 +72,29 @@ pub fn check_image(im: &[u32], data: &[u8]) -> Result<(), BrokenImage>
     }
 }
 
-// An image that breaks no rule: its words, and its data.
+// The words of an image whose tables break no rule.
+#[derive(Clone, Copy)]
+pub struct Tables<'a> {
+    pub words: &'a [u32],
+    pub ghost sound: { tables_sound words.now ≡ true },
+}
+
+// An image that breaks no rule: its tables, and its data.
 #[derive(Clone, Copy)]
 pub struct Image<'a> {
-    pub words: &'a [u32],
+    pub tables: Tables<'a>,
     pub data: &'a [u8],
-    pub ghost tables: { tables_sound words.now ≡ true },
-    pub ghost inside: { data_inside words.now (length «data».now) ≡ true },
+    pub ghost inside: { data_inside tables.words.now (length «data».now) ≡ true },
 }
 
 impl<'a> Image<'a> {
     // The image of the caller's own words and data, for any words and bytes: an error exactly where a rule is broken.
     pub fn new(words: &'a [u32], data: &'a [u8]) -> Result<Image<'a>, BrokenImage>
         ensures broken { OnErr result (sound words.now (length «data».now) ≡ false) }
-        ensures whole { IfOk result (λ im. (sound words.now (length «data».now) ≡ true) × (im.words ≡ words.entry) × (im.«data» ≡ «data».entry)) }
+        ensures whole { IfOk result (λ im. (sound words.now (length «data».now) ≡ true) × (im.tables.words ≡ words.entry) × (im.«data» ≡ «data».entry)) }
     {
         check_image(words, data)?;
-        Ok(Image { words, data })
+        let tables = Tables { words };
+        Ok(Image { tables, data })
     }
 }

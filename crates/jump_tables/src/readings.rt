@@ -3,7 +3,7 @@ ghost use Rattle.std.specs.Prelude.{◌≡◌};
 ghost use Rattle.jump_tables.specs.Readings.{bare_entry, in_function, sized_target, sized_word, guessed_target, guessed_word, sized_reading, guessed_reading, reading_of};
 
 use crate::{How, Reading};
-use image::Image;
+use image::{Image, Tables};
 use image::numbers::EXECUTABLE;
 use lookups::{Wanted, at_address, read_u32, relocation_target_for};
 use places::{RelocationTarget, SectionAddress, is_before};
@@ -12,12 +12,12 @@ use places::{RelocationTarget, SectionAddress, is_before};
 // only where the section has no word there.
 #[tactic(auto, unfolding(crate::specs::Readings::sized_reading))]
 pub fn sized_reading(im: &Image<'_>, p: SectionAddress) -> Reading
-    ensures { result ≡ sized_reading im.now.words.now im.now.«data».now p }
+    ensures { result ≡ sized_reading im.now.tables.words.now im.now.«data».now p }
 {
-    match relocation_target_for(im, p, Wanted::Absolute) {
+    match relocation_target_for(&im.tables, p, Wanted::Absolute) {
         Err(_) => Reading::Faulty,
         Ok(Some(t)) => sized_target(t),
-        Ok(None) => sized_word(im, read_u32(im, p)),
+        Ok(None) => sized_word(&im.tables, read_u32(im, p)),
     }
 }
 
@@ -29,18 +29,18 @@ pub fn guessed_reading(
     end: Option<SectionAddress>,
     p: SectionAddress,
 ) -> Reading
-    ensures { result ≡ guessed_reading im.now.words.now im.now.«data».now start end p }
+    ensures { result ≡ guessed_reading im.now.tables.words.now im.now.«data».now start end p }
 {
-    match relocation_target_for(im, p, Wanted::Absolute) {
+    match relocation_target_for(&im.tables, p, Wanted::Absolute) {
         Err(_) => Reading::Faulty,
         Ok(Some(t)) => guessed_target(t, start, end),
-        Ok(None) => guessed_word(im, read_u32(im, p), start, end),
+        Ok(None) => guessed_word(&im.tables, read_u32(im, p), start, end),
     }
 }
 
 // The same, as the table is read.
 pub fn reading(im: &Image<'_>, how: How, p: SectionAddress) -> Reading
-    ensures { result ≡ reading_of im.now.words.now im.now.«data».now how p }
+    ensures { result ≡ reading_of im.now.tables.words.now im.now.«data».now how p }
 {
     match how {
         How::Sized => sized_reading(im, p),
@@ -70,7 +70,7 @@ fn guessed_target(
     }
 }
 
-fn sized_word(im: &Image<'_>, w: Option<u32>) -> Reading
+fn sized_word(im: &Tables<'_>, w: Option<u32>) -> Reading
     ensures { result ≡ sized_word im.now.words.now w }
 {
     let Some(v) = w else {
@@ -86,7 +86,7 @@ fn sized_word(im: &Image<'_>, w: Option<u32>) -> Reading
 }
 
 fn guessed_word(
-    im: &Image<'_>,
+    im: &Tables<'_>,
     w: Option<u32>,
     start: SectionAddress,
     end: Option<SectionAddress>,
@@ -103,7 +103,7 @@ fn guessed_word(
 }
 
 // The place that a bare word names: in an Executable by the first section that holds it, in a Relocatable none.
-fn bare_entry(im: &Image<'_>, v: u32) -> Option<SectionAddress>
+fn bare_entry(im: &Tables<'_>, v: u32) -> Option<SectionAddress>
     ensures { result ≡ bare_entry im.now.words.now v }
 {
     if im.words[0] != EXECUTABLE {

@@ -3,7 +3,7 @@ ghost use Rattle.std.specs.Prelude.{◌≡◌, ◌+◌, ◌-◌, ◌≤◌, ◌<
 ghost use Rattle.lookups.specs.Bytes.{has_data, data_from, data_offset, word_at};
 
 use crate::sections::is_within;
-use image::Image;
+use image::{Image, Tables};
 use image::numbers::BSS;
 use image::table::{section, section_count};
 use places::SectionAddress;
@@ -11,11 +11,11 @@ use words::bytes::four;
 
 // The image's own bytes from a place to its section's end; none for Bss or an address outside.
 pub fn data_from<'a>(im: &Image<'a>, at: SectionAddress) -> &'a [u8]
-    ensures result_value { result.now ≡ data_from im.now.words.now im.now.«data».now at }
-    ensures own { (result.ref_ptr.0 ≡ im.now.«data».ref_ptr.0) × (result.ref_ptr.1 ≡ data_offset im.now.words.now at + im.now.«data».ref_ptr.1) }
+    ensures result_value { result.now ≡ data_from im.now.tables.words.now im.now.«data».now at }
+    ensures own { (result.ref_ptr.0 ≡ im.now.«data».ref_ptr.0) × (result.ref_ptr.1 ≡ data_offset im.now.tables.words.now at + im.now.«data».ref_ptr.1) }
 {
-    if has_data(im, at) {
-        let s = section(im.words, at.section as usize);
+    if has_data(&im.tables, at) {
+        let s = section(im.tables.words, at.section as usize);
         bytes_from(im.data, s.address, s.size, s.place, at.address)
     } else {
         &im.data[0..0]
@@ -24,7 +24,7 @@ pub fn data_from<'a>(im: &Image<'a>, at: SectionAddress) -> &'a [u8]
 
 // The big-endian word at a place, where its section has four bytes of data from there on.
 pub fn read_u32(im: &Image<'_>, at: SectionAddress) -> Option<u32>
-    ensures { result ≡ word_at im.now.words.now im.now.«data».now at }
+    ensures { result ≡ word_at im.now.tables.words.now im.now.«data».now at }
 {
     let d = data_from(im, at);
     if d.len() < 4 {
@@ -34,7 +34,7 @@ pub fn read_u32(im: &Image<'_>, at: SectionAddress) -> Option<u32>
 }
 
 // Whether a place has data: its section exists, is no Bss and holds the address.
-fn has_data(im: &Image<'_>, at: SectionAddress) -> bool
+fn has_data(im: &Tables<'_>, at: SectionAddress) -> bool
     ensures { result ≡ has_data im.now.words.now at }
 {
     let i = at.section as usize;

@@ -5,7 +5,7 @@ ghost use Rattle.lookups.specs.Code.{in_code, code_place, word_number};
 
 use crate::sections::is_within;
 use crate::{PlaceError, WordNumber};
-use image::Image;
+use image::{Image, Tables};
 use image::code::words_before;
 use image::numbers::CODE;
 use image::table::{section, section_count};
@@ -14,7 +14,7 @@ use words::bytes::four;
 
 // NotCode (2) unless the place's own section exists, is Code and holds it; then Misaligned (3) unless its address is a
 // multiple of 4; else Ok.
-pub fn code_place(im: &Image<'_>, at: SectionAddress) -> Result<(), PlaceError>
+pub fn code_place(im: &Tables<'_>, at: SectionAddress) -> Result<(), PlaceError>
     ensures { result ≡ code_place im.now.words.now at }
 {
     if !is_in_code(im, at) {
@@ -28,7 +28,7 @@ pub fn code_place(im: &Image<'_>, at: SectionAddress) -> Result<(), PlaceError>
 }
 
 // Whether a place is in code: its own section exists, is Code and holds the address.
-pub fn is_in_code(im: &Image<'_>, at: SectionAddress) -> bool
+pub fn is_in_code(im: &Tables<'_>, at: SectionAddress) -> bool
     ensures { result ≡ in_code im.now.words.now at }
 {
     let i = at.section as usize;
@@ -40,7 +40,7 @@ pub fn is_in_code(im: &Image<'_>, at: SectionAddress) -> bool
 }
 
 // The number of the Code word at a place of code: it is below W. It reads two words of each section before the place's own.
-pub fn word_number(im: &Image<'_>, at: SectionAddress) -> WordNumber
+pub fn word_number(im: &Tables<'_>, at: SectionAddress) -> WordNumber
     requires { in_code im.now.words.now at ≡ true }
     ensures { result.0 ≡ word_number im.now.words.now at }
 {
@@ -52,11 +52,11 @@ pub fn word_number(im: &Image<'_>, at: SectionAddress) -> WordNumber
 
 // The word at an aligned place of code: two words of the tables and four bytes are read.
 pub fn code_word(im: &Image<'_>, at: SectionAddress) -> u32
-    requires { code_place im.now.words.now at ≡ Ok tt }
-    ensures { Some result ≡ word_at im.now.words.now im.now.«data».now at }
+    requires { code_place im.now.tables.words.now at ≡ Ok tt }
+    ensures { Some result ≡ word_at im.now.tables.words.now im.now.«data».now at }
 {
     let i = at.section as usize;
-    let from = im.words[i * 6 + 6];
-    let place = im.words[i * 6 + 10] as usize;
+    let from = im.tables.words[i * 6 + 6];
+    let place = im.tables.words[i * 6 + 10] as usize;
     four(im.data, place + (at.address - from) as usize)
 }

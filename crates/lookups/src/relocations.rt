@@ -8,7 +8,7 @@ use crate::{Relocation, RelocationError, Wanted};
 use image::elf::elf_index;
 use image::numbers::{ABSOLUTE, EXECUTABLE, NO_SECTION};
 use image::table::{bound, section, section_count, unbound, unbound_count, unbounds_from};
-use image::{Bound, Image, Unbound};
+use image::{Bound, Tables, Unbound};
 use places::{RelocationTarget, SectionAddress};
 use search::first;
 use words::sum::wrapping_add;
@@ -16,7 +16,7 @@ use words::sum::wrapping_add;
 // What the tables say of a place: the bound one first, then the unbound one. None where neither has an entry.
 // Error for another kind than the wanted one, for an unbound target in no section, and for an address of 2^32 or more.
 #[tactic(auto, using(image::proofs::SoundTables::sound_tables, search::proofs::FirstMatch::first_below), unfolding(crate::specs::Relocations::relocation_for))]
-pub fn relocation_target_for(im: &Image<'_>, at: SectionAddress, wanted: Wanted) -> Relocation
+pub fn relocation_target_for(im: &Tables<'_>, at: SectionAddress, wanted: Wanted) -> Relocation
     ensures { result ≡ relocation_for im.now.words.now at wanted }
 {
     let i = at.section as usize;
@@ -30,7 +30,7 @@ pub fn relocation_target_for(im: &Image<'_>, at: SectionAddress, wanted: Wanted)
 }
 
 // The relocation at a place, of any kind; an error counts as none.
-pub fn target_at(im: &Image<'_>, at: SectionAddress) -> Option<RelocationTarget>
+pub fn target_at(im: &Tables<'_>, at: SectionAddress) -> Option<RelocationTarget>
     ensures { result ≡ target_at im.now.words.now at }
 {
     match relocation_target_for(im, at, Wanted::Any) {
@@ -44,7 +44,7 @@ pub fn target_at(im: &Image<'_>, at: SectionAddress) -> Option<RelocationTarget>
 // value; else the instruction's own section if it holds it; else None.
 #[tactic(auto, unfolding(crate::specs::Relocations::section_address_for))]
 pub fn section_address_for(
-    im: &Image<'_>,
+    im: &Tables<'_>,
     at: SectionAddress,
     value: u32,
 ) -> Option<RelocationTarget>
@@ -58,7 +58,7 @@ pub fn section_address_for(
 
 // The index of the first unbound entry for a section's elf number and an address. First match is the paper's rule, and
 // the table is in no order: a place with no entry costs one read of each entry, 4,096 at most.
-pub fn unbound_index(im: &Image<'_>, elf: u32, a: u32) -> Option<usize>
+pub fn unbound_index(im: &Tables<'_>, elf: u32, a: u32) -> Option<usize>
     ensures { result ≡ unbound_index im.now.words.now elf a }
 {
     let words = im.words;
@@ -78,7 +78,7 @@ fn is_entry(im: &[u32], k: usize, elf: u32, a: u32) -> bool
 }
 
 // A value with no relocation: by the section that holds it in an Executable, else by section i alone.
-fn bare_address(im: &Image<'_>, i: u32, value: u32) -> Option<RelocationTarget>
+fn bare_address(im: &Tables<'_>, i: u32, value: u32) -> Option<RelocationTarget>
     ensures { result ≡ bare_address im.now.words.now i value }
 {
     if im.words[0] == EXECUTABLE {
@@ -116,7 +116,7 @@ fn bound_target(r: Bound, wanted: Wanted) -> Relocation
 }
 
 // What the unbound table says of a section's elf number and an address.
-fn unbound_target_for(im: &Image<'_>, elf: u32, a: u32, wanted: Wanted) -> Relocation
+fn unbound_target_for(im: &Tables<'_>, elf: u32, a: u32, wanted: Wanted) -> Relocation
     ensures { result ≡ unbound_for im.now.words.now elf a wanted }
 {
     let Some(j) = unbound_index(im, elf, a) else {
@@ -126,7 +126,7 @@ fn unbound_target_for(im: &Image<'_>, elf: u32, a: u32, wanted: Wanted) -> Reloc
 }
 
 // What an unbound entry says: External is looked at before the kind.
-fn unbound_target(im: &Image<'_>, r: Unbound, wanted: Wanted) -> Relocation
+fn unbound_target(im: &Tables<'_>, r: Unbound, wanted: Wanted) -> Relocation
     ensures { result ≡ unbound_target im.now.words.now wanted r }
 {
     if r.module != im.words[1] {

@@ -2,12 +2,12 @@
 ghost use Rattle.std.specs.Prelude.{◌≡◌};
 ghost use Rattle.lookups.specs.Sections.{at_address, within};
 
-use image::Image;
+use image::Tables;
 use image::table::section_count;
 use search::first;
 
 // The first section that holds the address, or none. It reads two words a section.
-pub fn at_address(im: &Image<'_>, a: u32) -> Option<usize>
+pub fn at_address(im: &Tables<'_>, a: u32) -> Option<usize>
     ensures { result ≡ at_address im.now.words.now a }
 {
     let words = im.words;

@@ -7,12 +7,12 @@ ghost use Rattle.lookups.specs.Sections.{symbol_index, known_size};
 ghost use Rattle.lookups.specs.Relocations.{bound_index};
 ghost use Rattle.lookups.specs.Keys.{key_of, key_at, places_at, here_of};
 
-use image::Image;
+use image::Tables;
 use image::table::{bound_count, bounds_from, symbol, symbol_count, symbols_from};
 use places::SectionAddress;
 
 // The bound relocation at a place, or none: some twelve comparisons in a table of 4,096.
-pub fn bound_index(im: &Image<'_>, at: SectionAddress) -> Option<usize>
+pub fn bound_index(im: &Tables<'_>, at: SectionAddress) -> Option<usize>
     ensures { result ≡ bound_index im.now.words.now at }
 {
     let words = im.words;
@@ -20,7 +20,7 @@ pub fn bound_index(im: &Image<'_>, at: SectionAddress) -> Option<usize>
 }
 
 // The object symbol at a place, or none, as cheaply.
-pub fn symbol_index(im: &Image<'_>, at: SectionAddress) -> Option<usize>
+pub fn symbol_index(im: &Tables<'_>, at: SectionAddress) -> Option<usize>
     ensures { result ≡ symbol_index im.now.words.now at }
 {
     let words = im.words;
@@ -28,7 +28,7 @@ pub fn symbol_index(im: &Image<'_>, at: SectionAddress) -> Option<usize>
 }
 
 // The known size of the object symbol at a place; 0 for no symbol and for an unknown size.
-pub fn known_size(im: &Image<'_>, at: SectionAddress) -> u32
+pub fn known_size(im: &Tables<'_>, at: SectionAddress) -> u32
     ensures { result ≡ known_size im.now.words.now at }
 {
     let Some(j) = symbol_index(im, at) else {

@@ -13,7 +13,7 @@ ghost use Rattle.turns.specs.Moves.{table_room};
 ghost use Rattle.pushes.specs.Takes.{none, PushedAt, TakenTarget, TakenWays};
 
 use clones::Made;
-use image::Image;
+use image::{Image, Tables};
 use places::{RelocationTarget, SectionAddress};
 use step::Leave;
 use tables::take_table;
@@ -43,7 +43,7 @@ fn nothing(count: usize) -> Taken
 
 // One place with what a way makes of the state: pushed if it is an aligned code word, sorted.
 pub(crate) fn push_at(
-    im: &Image<'_>,
+    im: &Tables<'_>,
     stack: &mut [u32],
     count: usize,
     q: SectionAddress,
@@ -79,14 +79,14 @@ fn take_target(
 ) -> Taken
     requires cells { Cells cells.now (state_of cells.now) }
     requires stack { Stack stack.old count × (length entries.old ≡ table_room) }
-    ensures { TakenTarget im.now.words.now im.now.«data».now from upto stack.old count entries.old t (made_of made (state_of cells.now)) stack.new entries.new result }
+    ensures { TakenTarget im.now.tables.words.now im.now.«data».now from upto stack.old count entries.old t (made_of made (state_of cells.now)) stack.new entries.new result }
 {
     match t {
         BranchTarget::Unknown => nothing(count),
         BranchTarget::Return => nothing(count),
         BranchTarget::Address(a) => match a {
             RelocationTarget::External => nothing(count),
-            RelocationTarget::Address(q) => push_at(im, stack, count, q, cells, made),
+            RelocationTarget::Address(q) => push_at(&im.tables, stack, count, q, cells, made),
         },
         BranchTarget::JumpTable { address, size } => {
             take_table(
@@ -110,12 +110,12 @@ fn take_jump(
 ) -> Taken
     requires cells { Cells cells.now (state_of cells.now) }
     requires stack { Stack stack.old count × (length entries.old ≡ table_room) }
-    ensures { TakenWays im.now.words.now im.now.«data».now from upto stack.old count entries.old at (Leave.Jump t) (state_of cells.now) stack.new entries.new result }
+    ensures { TakenWays im.now.tables.words.now im.now.«data».now from upto stack.old count entries.old at (Leave.Jump t) (state_of cells.now) stack.new entries.new result }
 {
     if stays_in(at, t) {
         return nothing(count);
     }
-    if is_way(im, t) {
+    if is_way(&im.tables, t) {
         return take_target(im, from, upto, stack, count, entries, t, cells, Made::Same);
     }
     nothing(count)
@@ -135,13 +135,13 @@ fn take_call(
 ) -> Taken
     requires cells { Cells cells.now (state_of cells.now) }
     requires stack { Stack stack.old count × (length entries.old ≡ table_room) }
-    ensures { TakenWays im.now.words.now im.now.«data».now from upto stack.old count entries.old at (Leave.Call t) (state_of cells.now) stack.new entries.new result }
+    ensures { TakenWays im.now.tables.words.now im.now.«data».now from upto stack.old count entries.old at (Leave.Call t) (state_of cells.now) stack.new entries.new result }
 {
-    let first = push_at(im, stack, count, places::offset(at, 4), cells, Made::Return);
+    let first = push_at(&im.tables, stack, count, places::offset(at, 4), cells, Made::Return);
     if first.full {
         return first;
     }
-    if is_way(im, t) {
+    if is_way(&im.tables, t) {
         return take_target(
             im,
             from,
@@ -174,10 +174,10 @@ fn take_fork(
 ) -> Taken
     requires cells { Cells cells.now (state_of cells.now) }
     requires stack { Stack stack.old count × (length entries.old ≡ table_room) }
-    ensures { TakenWays im.now.words.now im.now.«data».now from upto stack.old count entries.old at (Leave.Fork t crf stays goes) (state_of cells.now) stack.new entries.new result }
+    ensures { TakenWays im.now.tables.words.now im.now.«data».now from upto stack.old count entries.old at (Leave.Fork t crf stays goes) (state_of cells.now) stack.new entries.new result }
 {
     let first = push_at(
-        im,
+        &im.tables,
         stack,
         count,
         places::offset(at, 4),
@@ -187,7 +187,7 @@ fn take_fork(
     if first.full {
         return first;
     }
-    if is_way(im, t) {
+    if is_way(&im.tables, t) {
         return take_target(
             im,
             from,
@@ -217,13 +217,13 @@ fn take_both(
 ) -> Taken
     requires cells { Cells cells.now (state_of cells.now) }
     requires stack { Stack stack.old count × (length entries.old ≡ table_room) }
-    ensures { TakenWays im.now.words.now im.now.«data».now from upto stack.old count entries.old at (Leave.Both t) (state_of cells.now) stack.new entries.new result }
+    ensures { TakenWays im.now.tables.words.now im.now.«data».now from upto stack.old count entries.old at (Leave.Both t) (state_of cells.now) stack.new entries.new result }
 {
-    let first = push_at(im, stack, count, places::offset(at, 4), cells, Made::Same);
+    let first = push_at(&im.tables, stack, count, places::offset(at, 4), cells, Made::Same);
     if first.full {
         return first;
     }
-    if is_way(im, t) {
+    if is_way(&im.tables, t) {
         return take_target(
             im,
             from,
@@ -253,7 +253,7 @@ pub fn take(
 ) -> Taken
     requires cells { Cells cells.now (state_of cells.now) }
     requires stack { Stack stack.old count × (length entries.old ≡ table_room) }
-    ensures { TakenWays im.now.words.now im.now.«data».now from upto stack.old count entries.old at l (state_of cells.now) stack.new entries.new result }
+    ensures { TakenWays im.now.tables.words.now im.now.«data».now from upto stack.old count entries.old at l (state_of cells.now) stack.new entries.new result }
 {
     match l {
         Leave::Ended | Leave::Illegal => nothing(count),

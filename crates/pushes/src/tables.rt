@@ -9,7 +9,7 @@ ghost use Rattle.pushes.specs.Takes.{unread, PushedKeys, TakenTable};
 
 use crate::{Taken, nothing, push_at};
 use clones::Made;
-use image::Image;
+use image::{Image, Tables};
 use jump_tables::table_in;
 use places::{RelocationTarget, SectionAddress};
 
@@ -25,7 +25,7 @@ pub fn place_of(key: u64) -> SectionAddress
 
 // The first n entries of a table in order, each with the same state, until a push is refused.
 pub fn push_keys(
-    im: &Image<'_>,
+    im: &Tables<'_>,
     stack: &mut [u32],
     count: usize,
     entries: &[u64],
@@ -82,14 +82,14 @@ pub(crate) fn take_table(
 ) -> Taken
     requires cells { Cells cells.now (state_of cells.now) }
     requires stack { Stack stack.old count × (length entries.old ≡ table_room) }
-    ensures { TakenTable im.now.words.now im.now.«data».now from upto stack.old count entries.old t size (made_of made (state_of cells.now)) stack.new entries.new result }
+    ensures { TakenTable im.now.tables.words.now im.now.«data».now from upto stack.old count entries.old t size (made_of made (state_of cells.now)) stack.new entries.new result }
 {
     match t {
         RelocationTarget::External => not_read(count),
         RelocationTarget::Address(p) => {
             match table_in(im, p, size_in(size), from, upto, entries) {
                 Ok(t) => {
-                    let r = push_keys(im, stack, count, entries, t.count, cells, made);
+                    let r = push_keys(&im.tables, stack, count, entries, t.count, cells, made);
                     Taken { read: 1, ..r }
                 }
                 Err(_) => not_read(count),

@@ -12,7 +12,7 @@ use cells::{
     compare_in, ctr_in, forget, lr_in, register_in, set_compare, set_ctr, set_lr, set_register,
 };
 use decoder::Writes;
-use image::Image;
+use image::Tables;
 use places::SectionAddress;
 use step::{Effect, Leave, Way, ways};
 use vm::register::{set_direct, with_value};
@@ -20,7 +20,7 @@ use vm::{Cr, GprValue};
 use words::field;
 
 // How the word leaves.
-pub(crate) fn leaves(im: &Image<'_>, at: SectionAddress, w: u32, way: Way, cells: &[u32]) -> Leave
+pub(crate) fn leaves(im: &Tables<'_>, at: SectionAddress, w: u32, way: Way, cells: &[u32]) -> Leave
     requires { Cells cells.now (state_of cells.now) }
     ensures { result ≡ leave_of way im.now.words.now at w (state_of cells.now).ctr.value (cr_at (state_of cells.now) (bi_of w / 4)) }
 {
@@ -74,7 +74,7 @@ pub fn compared(w: u32, right: GprValue, signed: bool, cells: &mut [u32])
 
 // Any effect: the state after it stands in the cells, or, where the word leaves, the state as it was.
 pub(crate) fn carry(
-    im: &Image<'_>,
+    im: &Tables<'_>,
     at: SectionAddress,
     w: u32,
     e: Effect,

@@ -10,7 +10,7 @@ ghost use Rattle.cells.specs.Cells.{state_of, Cells};
 ghost use Rattle.turns.specs.Straight.{is_ended};
 ghost use Rattle.runs.specs.Went.{Halts};
 
-use image::Image;
+use image::Tables;
 use places::SectionAddress;
 use step::Leave;
 use word::one;
@@ -30,7 +30,7 @@ pub fn is_ended(l: Leave) -> bool
 }
 
 // `code` is the bytes from the place on, to its section's end.
-pub fn run(im: &Image<'_>, code: &[u8], at: SectionAddress, cells: &mut [u32]) -> Halted
+pub fn run(im: &Tables<'_>, code: &[u8], at: SectionAddress, cells: &mut [u32]) -> Halted
     requires { Cells cells.old (state_of cells.old) }
     ensures { Halts im.now.words.now code.now at (state_of cells.old) result cells.new }
 {

@@ -9,7 +9,7 @@ use crate::carry;
 use carry::{carry, clear, compared, leaves};
 use cells::{forget, register_in, set_register};
 use decoder::{Decoded, Op};
-use image::Image;
+use image::Tables;
 use places::SectionAddress;
 use step::{Leave, Way, arms, records};
 use vm::register::set_direct;
@@ -17,7 +17,7 @@ use vm::{GprValue, rule};
 use words::{field, mask};
 
 // Any word, by its arm.
-fn rest(im: &Image<'_>, at: SectionAddress, w: u32, dec: Decoded, cells: &mut [u32]) -> Leave
+fn rest(im: &Tables<'_>, at: SectionAddress, w: u32, dec: Decoded, cells: &mut [u32]) -> Leave
     requires { Cells cells.old (state_of cells.old) × (dec ≡ decoded w) }
     ensures { Went im.now.words.now at w (state_of cells.old) result cells.new }
 {
@@ -28,7 +28,7 @@ fn rest(im: &Image<'_>, at: SectionAddress, w: u32, dec: Decoded, cells: &mut [u
 }
 
 // A word under 31.
-fn extended(im: &Image<'_>, at: SectionAddress, w: u32, cells: &mut [u32]) -> Leave
+fn extended(im: &Tables<'_>, at: SectionAddress, w: u32, cells: &mut [u32]) -> Leave
     requires { Cells cells.old (state_of cells.old) }
     ensures { Went im.now.words.now at w (state_of cells.old) result cells.new }
 {
@@ -97,7 +97,7 @@ fn extended(im: &Image<'_>, at: SectionAddress, w: u32, cells: &mut [u32]) -> Le
 }
 
 // What the word does to the state in the cells, or how it leaves; Ended says that the run goes on.
-pub(crate) fn one(im: &Image<'_>, at: SectionAddress, w: u32, cells: &mut [u32]) -> Leave
+pub(crate) fn one(im: &Tables<'_>, at: SectionAddress, w: u32, cells: &mut [u32]) -> Leave
     requires { Cells cells.old (state_of cells.old) }
     ensures { Went im.now.words.now at w (state_of cells.old) result cells.new }
 {

@@ -4,7 +4,7 @@ ghost use Rattle.step.specs.Arms.{effect_of};
 
 use crate::{Effect, Way, records};
 use decoder::{Decoded, Op};
-use image::Image;
+use image::Tables;
 use places::SectionAddress;
 use vm::register::set_direct;
 use vm::{Gpr, GprValue, rule};
@@ -13,7 +13,7 @@ use words::{field, mask};
 // gs, ga and gb are the records of rS (the bits of rD), rA and rB.
 #[tactic(auto, using(crate::proofs::Masks::masked), unfolding(crate::specs::Arms::effect_by))]
 pub fn effect(
-    im: &Image<'_>,
+    im: &Tables<'_>,
     at: SectionAddress,
     w: u32,
     dec: Decoded,

@@ -4,7 +4,7 @@ ghost use Rattle.step.specs.Step.{goes_on, access_result, accessed, cleared_of, 
 
 use crate::{Effect, StepResult, Stepped, arms, ways};
 use decoder::Writes;
-use image::Image;
+use image::Tables;
 use places::{RelocationTarget, SectionAddress};
 use vm::register::set_direct;
 use vm::{Gpr, GprValue, Held, VM};
@@ -71,7 +71,7 @@ fn clear(kind: Writes, w: u32, s: VM) -> VM
 }
 
 #[tactic(auto, unfolding(crate::specs::Step::done_of, crate::specs::Step::step_of))]
-pub fn step_word(im: &Image<'_>, at: SectionAddress, w: u32, s: VM) -> Stepped
+pub fn step_word(im: &Tables<'_>, at: SectionAddress, w: u32, s: VM) -> Stepped
     ensures { result ≡ step_of im.now.words.now at w s }
 {
     let mut t = s;

@@ -139,10 +139,10 @@ pub fn step(im: &[u32], data: &[u8], at: SectionAddress, word: u32, state: VM) -
 {
     match Image::new(im, data) {
         Err(_) => refused(Refusal::BrokenImage, state),
-        Ok(im) => match lookups::code_place(&im, at) {
+        Ok(im) => match lookups::code_place(&im.tables, at) {
             Err(PlaceError::NotCode) => refused(Refusal::NotCode, state),
             Err(PlaceError::Misaligned) => refused(Refusal::Misaligned, state),
-            Ok(()) => done::step_word(&im, at, word, state),
+            Ok(()) => done::step_word(&im.tables, at, word, state),
         },
     }
 }

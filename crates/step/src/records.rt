@@ -6,7 +6,7 @@ ghost use Rattle.step.specs.Arms.{addis_gpr, addi_gpr, ori_gpr, or_gpr, compare_
 
 use crate::Effect;
 use decoder::Op;
-use image::Image;
+use image::Tables;
 use places::{RelocationTarget, SectionAddress};
 use vm::register::{set_direct, set_hi, set_lo, with_value};
 use vm::{Cr, Gpr, GprValue, rule};
@@ -123,7 +123,7 @@ pub fn mfspr(w: u32) -> Effect
 }
 
 // Gpr::address
-pub fn address(im: &Image<'_>, at: SectionAddress, value: GprValue) -> Option<RelocationTarget>
+pub fn address(im: &Tables<'_>, at: SectionAddress, value: GprValue) -> Option<RelocationTarget>
     ensures { result ≡ address_of (section_address_for im.now.words.now at) value }
 {
     match value {
@@ -134,7 +134,7 @@ pub fn address(im: &Image<'_>, at: SectionAddress, value: GprValue) -> Option<Re
 }
 
 // What a displacement load or store reaches: an Address base does not get the displacement.
-fn reach(im: &Image<'_>, at: SectionAddress, base: GprValue, simm: u32) -> Option<RelocationTarget>
+fn reach(im: &Tables<'_>, at: SectionAddress, base: GprValue, simm: u32) -> Option<RelocationTarget>
     ensures { result ≡ seen_of (section_address_for im.now.words.now at) base simm }
 {
     match base {
@@ -148,7 +148,7 @@ fn reach(im: &Image<'_>, at: SectionAddress, base: GprValue, simm: u32) -> Optio
 
 // The displacement loads and stores
 #[tactic(auto, unfolding(crate::specs::Arms::access_of))]
-pub(crate) fn access(im: &Image<'_>, at: SectionAddress, w: u32, op: Op, ga: Gpr) -> Effect
+pub(crate) fn access(im: &Tables<'_>, at: SectionAddress, w: u32, op: Op, ga: Gpr) -> Effect
     ensures { result ≡ access_of op im.now.words.now at w ga }
 {
     let seen = reach(im, at, ga.value, field::simm(w));

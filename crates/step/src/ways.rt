@@ -5,7 +5,7 @@ ghost use Rattle.vm.specs.Rules.{reached_of};
 ghost use Rattle.step.specs.Ways.{ctr_target, dest_target, conditional_of, branch_of, leave_of, branches_of, left_of};
 
 use crate::{Branch, Leave, StepResult, Stepped, Way};
-use image::Image;
+use image::Tables;
 use places::{RelocationTarget, SectionAddress};
 use vm::{BranchTarget, Cr, GprValue, VM, rule};
 use words::field;
@@ -20,7 +20,7 @@ fn reached(known: Option<RelocationTarget>) -> BranchTarget
 }
 
 // Where CTR leads; a linked branch is never taken for a jump table.
-fn ctr_target(im: &Image<'_>, at: SectionAddress, ctr: GprValue, lk: bool) -> BranchTarget
+fn ctr_target(im: &Tables<'_>, at: SectionAddress, ctr: GprValue, lk: bool) -> BranchTarget
     ensures { result ≡ ctr_target (section_address_for im.now.words.now at) lk ctr }
 {
     match ctr {
@@ -38,7 +38,7 @@ fn ctr_target(im: &Image<'_>, at: SectionAddress, ctr: GprValue, lk: bool) -> Br
 }
 
 // Where b and bc lead.
-fn dest_target(im: &Image<'_>, at: SectionAddress, w: u32) -> BranchTarget
+fn dest_target(im: &Tables<'_>, at: SectionAddress, w: u32) -> BranchTarget
     ensures { result ≡ dest_target im.now.words.now at w }
 {
     let n = decoder::branch_dest(w, at.address);
@@ -87,7 +87,7 @@ fn branch(w: u32, always: bool, target: BranchTarget, cr: Cr) -> Leave
 
 // cr is the compare record of the field that BI names.
 #[tactic(auto, unfolding(crate::specs::Ways::leave_of))]
-pub fn leave(im: &Image<'_>, at: SectionAddress, w: u32, way: Way, ctr: GprValue, cr: Cr) -> Leave
+pub fn leave(im: &Tables<'_>, at: SectionAddress, w: u32, way: Way, ctr: GprValue, cr: Cr) -> Leave
     ensures { result ≡ leave_of way im.now.words.now at w ctr cr }
 {
     let always = field::bo(w) & 20 == 20;

@@ -8,7 +8,7 @@ ghost use Rattle.cells.specs.Cells.{state_of, Cells};
 ghost use Rattle.walk.specs.Blocks.{target_in, branch_in, jump_in, ending_of, Block};
 
 use crate::Ended;
-use image::Image;
+use image::{Image, Tables};
 use lookups::{PlaceError, code_place, word_number};
 use places::{RelocationTarget, SectionAddress};
 use runs::is_ended;
@@ -50,7 +50,7 @@ fn jump_in(l: Leave, section: u32) -> Option<SectionAddress>
 }
 
 // Whether a place is a word of code that was not visited.
-fn is_new(im: &Image<'_>, map: &[u32], q: SectionAddress) -> bool
+fn is_new(im: &Tables<'_>, map: &[u32], q: SectionAddress) -> bool
     ensures { result ≡ is_fine (code_place im.now.words.now q) && not (visited_at map.now (word_number im.now.words.now q)) }
 {
     match code_place(im, q) {
@@ -68,8 +68,8 @@ pub(crate) fn run_block(
     from: SectionAddress,
     cells: &mut [u32],
 ) -> Ended
-    requires { (code_words im.now.words.now ≤ length map.old * 32) × (is_fine (code_place im.now.words.now from) ≡ true) × Cells cells.old (state_of cells.old) }
-    ensures { Cells cells.new (state_of cells.new) × ((start : SectionAddress) (end : Option SectionAddress) (slots : ℕ) → Block (ground_of im.now.words.now im.now.«data».now start end slots) from (state_of cells.old) map.old (ending_of result (state_of cells.new)) map.new) }
+    requires { (code_words im.now.tables.words.now ≤ length map.old * 32) × (is_fine (code_place im.now.tables.words.now from) ≡ true) × Cells cells.old (state_of cells.old) }
+    ensures { Cells cells.new (state_of cells.new) × ((start : SectionAddress) (end : Option SectionAddress) (slots : ℕ) → Block (ground_of im.now.tables.words.now im.now.«data».now start end slots) from (state_of cells.old) map.old (ending_of result (state_of cells.new)) map.new) }
 {
     let mut p = from;
     let mut stepped: u64 = 0;
@@ -77,10 +77,10 @@ pub(crate) fn run_block(
     // No for: a block goes on by its jumps.
     loop {
         let code = lookups::data_from(im, p);
-        let r = runs::run(im, code, p, cells);
+        let r = runs::run(&im.tables, code, p, cells);
         let at = r.at;
         let l = r.leave;
-        let w = word_number(im, p);
+        let w = word_number(&im.tables, p);
         let many = (at.address - p.address) / 4;
         if is_ended(l) {
             visited::mark_run(map, w, many);
@@ -103,7 +103,7 @@ pub(crate) fn run_block(
                 };
             }
             Some(q) => {
-                if is_new(im, map, q) {
+                if is_new(&im.tables, map, q) {
                     begun += 1;
                     p = q;
                     continue;

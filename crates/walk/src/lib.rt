@@ -95,7 +95,7 @@ fn walk_image(
     stack: &mut [u32],
     entries: &mut [u64; TABLE_ROOM],
 ) -> Walked
-    ensures { walked (given im.now.words.now im.now.«data».now (places_of starts.now) two thirteen from upto) map.old (record { stack = stack.old; entries = entries.old }) ≡ record { result = result; vis = map.new; lent = record { stack = stack.new; entries = entries.new } } }
+    ensures { walked (given im.now.tables.words.now im.now.«data».now (places_of starts.now) two thirteen from upto) map.old (record { stack = stack.old; entries = entries.old }) ≡ record { result = result; vis = map.new; lent = record { stack = stack.new; entries = entries.new } } }
 {
     let b = match begin(im, starts, two, thirteen, map, stack) {
         Ok(b) => b,
@@ -133,7 +133,7 @@ fn walk_image(
             };
         }
         let p = stack::top_place(stack, held);
-        if visited::contains(map, word_number(im, p)) {
+        if visited::contains(map, word_number(&im.tables, p)) {
             held -= 1;
             continue;
         }
@@ -162,7 +162,7 @@ fn follow(
 ) -> Taken
     requires state { Cells state.now (state_of state.now) }
     requires stack { Stack stack.old held × (length entries.old ≡ table_room) }
-    ensures { Followed im.now.words.now im.now.«data».now from upto stack.old held entries.old (ending_of e (state_of state.now)) stack.new entries.new result }
+    ensures { Followed im.now.tables.words.now im.now.«data».now from upto stack.old held entries.old (ending_of e (state_of state.now)) stack.new entries.new result }
 {
     match e.leave {
         Some(leave) => take(im, from, upto, stack, held, entries, e.at, leave, state),

@@ -8,7 +8,7 @@ ghost use Rattle.walk.specs.Starts.{places_of, Begins};
 use crate::Begun;
 use cells::STATE_WORDS;
 use clones::Made;
-use image::Image;
+use image::{Image, Tables};
 use image::code::code_words;
 use lookups::{PlaceError, code_place};
 use places::SectionAddress;
@@ -17,7 +17,7 @@ use turns::WalkError;
 use vm::state::new_with_base;
 
 // A start that is no code is NotCode (2), one that is not aligned Misaligned (3).
-fn judge_start(im: &Image<'_>, p: SectionAddress) -> Result<(), WalkError>
+fn judge_start(im: &Tables<'_>, p: SectionAddress) -> Result<(), WalkError>
     ensures { result ≡ judged_by (code_place im.now.words.now p) (Ok tt) }
 {
     match code_place(im, p) {
@@ -28,7 +28,7 @@ fn judge_start(im: &Image<'_>, p: SectionAddress) -> Result<(), WalkError>
 }
 
 // The starts in turn, the first bad one deciding.
-fn judge_starts(im: &Image<'_>, starts: &[u64]) -> Result<(), WalkError>
+fn judge_starts(im: &Tables<'_>, starts: &[u64]) -> Result<(), WalkError>
     ensures { result ≡ starts_judged im.now.words.now (places_of starts.now) }
 {
     for start in starts {
@@ -40,10 +40,10 @@ fn judge_starts(im: &Image<'_>, starts: &[u64]) -> Result<(), WalkError>
 // MapTooSmall (4), then the starts.
 #[tactic(auto, using(image::proofs::SoundTables::laid))]
 fn judge(im: &Image<'_>, starts: &[u64], map: &[u32]) -> Result<(), WalkError>
-    ensures { (two thirteen : Option ℕ) (from : SectionAddress) (upto : Option SectionAddress) → result ≡ judged (given im.now.words.now im.now.«data».now (places_of starts.now) two thirteen from upto) map.now }
+    ensures { (two thirteen : Option ℕ) (from : SectionAddress) (upto : Option SectionAddress) → result ≡ judged (given im.now.tables.words.now im.now.«data».now (places_of starts.now) two thirteen from upto) map.now }
 {
-    if visited::has_room(map, code_words(im.words)) {
-        return judge_starts(im, starts);
+    if visited::has_room(map, code_words(im.tables.words)) {
+        return judge_starts(&im.tables, starts);
     }
     Err(WalkError::MapTooSmall)
 }
@@ -58,13 +58,13 @@ pub(crate) fn begin(
     map: &mut [u32],
     stack: &mut [u32],
 ) -> Result<Begun, WalkError>
-    ensures { Begins im.now.words.now im.now.«data».now starts.now two thirteen map.old stack.old result map.new stack.new }
+    ensures { Begins im.now.tables.words.now im.now.«data».now starts.now two thirteen map.old stack.old result map.new stack.new }
 {
     judge(im, starts, map)?;
-    visited::clear(map, code_words(im.words));
+    visited::clear(map, code_words(im.tables.words));
     let mut fresh = [0u32; STATE_WORDS];
     cells::put_state(&mut fresh, new_with_base(two, thirteen));
-    let t = push_keys(im, stack, 0, starts, starts.len(), &fresh, Made::Same);
+    let t = push_keys(&im.tables, stack, 0, starts, starts.len(), &fresh, Made::Same);
     Ok(Begun {
         held: t.held,
         full: t.full,

@@ -35,14 +35,14 @@ pub word_number-requires : goal.word_number-requires
 word_number-requires c =
     let a = c.args in
     let l = c.loop-full in
-    (fine_place a.im.now.words.now c.top_place-p.result (rw c.top_place-p.ensures (walk_top c.begin.ensures a.from a.upto a.entries.now c.in-Ok.is l.invariant.0 (omega (arith, c.if-held-eq0.false))))).0
+    (fine_place a.im.now.tables.words.now c.top_place-p.result (rw c.top_place-p.ensures (walk_top c.begin.ensures a.from a.upto a.entries.now c.in-Ok.is l.invariant.0 (omega (arith, c.if-held-eq0.false))))).0
 
 pub loop-full-preserved-then-contains : goal.loop-full-preserved-then-contains
 loop-full-preserved-then-contains c =
     let a = c.args in
     let l = c.loop-full in
     let old = rw (c.word_number.ensures, c.top_place-p.ensures) at (sym c.contains.ensures ∙ c.if-contains.true) in (
-      λ starts two thirteen vis lent fine h. rw c.if-full.false (turn_old (given a.im.now.words.now a.im.now.«data».now starts two thirteen a.from a.upto) vis lent fine (rw c.if-full.false at (l.invariant.0 starts two thirteen vis lent fine h)) (omega (arith, c.if-held-eq0.false)) old).0,
+      λ starts two thirteen vis lent fine h. rw c.if-full.false (turn_old (given a.im.now.tables.words.now a.im.now.«data».now starts two thirteen a.from a.upto) vis lent fine (rw c.if-full.false at (l.invariant.0 starts two thirteen vis lent fine h)) (omega (arith, c.if-held-eq0.false)) old).0,
       l.invariant.1,
       l.invariant.2,
       l.invariant.3,
@@ -110,7 +110,7 @@ loop-full-preserved c =
     let a = c.args in
     let l = c.loop-full in
     let more : l.begun + (1 + c.run_block-e.result.begun) ≡ l.begun + 1 + c.run_block-e.result.begun = omega arith in (
-      λ starts two thirteen vis lent fine h. rw more (turn_follows (given a.im.now.words.now a.im.now.«data».now starts two thirteen a.from a.upto) vis lent fine (rw c.if-full.false at (l.invariant.0 starts two thirteen vis lent fine h)) (omega (arith, c.if-held-eq0.false)) (rw (c.word_number.ensures, c.top_place-p.ensures) at (sym c.contains.ensures ∙ c.if-contains.false)) (rw (c.top_place-p.ensures, cells_state c.top_cells.ensures) at (c.run_block-e.ensures.1 a.from a.upto (room (length lent.stack)))) c.follow-t.ensures).0,
+      λ starts two thirteen vis lent fine h. rw more (turn_follows (given a.im.now.tables.words.now a.im.now.«data».now starts two thirteen a.from a.upto) vis lent fine (rw c.if-full.false at (l.invariant.0 starts two thirteen vis lent fine h)) (omega (arith, c.if-held-eq0.false)) (rw (c.word_number.ensures, c.top_place-p.ensures) at (sym c.contains.ensures ∙ c.if-contains.false)) (rw (c.top_place-p.ensures, cells_state c.top_cells.ensures) at (c.run_block-e.ensures.1 a.from a.upto (room (length lent.stack)))) c.follow-t.ensures).0,
       c.run_block-e.auto.map ∙ l.invariant.1,
       c.follow-t.auto.stack ∙ l.invariant.2,
       cells_long c.run_block-e.ensures.0,

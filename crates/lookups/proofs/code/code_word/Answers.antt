@@ -9,12 +9,12 @@ pub four-requires : goal.four-requires
 four-requires c =
     let a = c.args in
     let i = a.im.now in
-    let k = code_bytes i.words.now (length i.«data».now) a.at i.tables i.inside c.requires in
+    let k = code_bytes i.tables.words.now (length i.«data».now) a.at i.tables.sound i.inside c.requires in
     omega (arith, k.place.place.from, k.bytes.inside, k.room)
 
 pub returns : goal.returns
 returns c =
     let a = c.args in
     let i = a.im.now in
-    let k = code_bytes i.words.now (length i.«data».now) a.at i.tables i.inside c.requires in
-    rw c.four.ensures (sym (code_word_at i.words.now i.«data».now a.at k))
+    let k = code_bytes i.tables.words.now (length i.«data».now) a.at i.tables.sound i.inside c.requires in
+    rw c.four.ensures (sym (code_word_at i.tables.words.now i.«data».now a.at k))

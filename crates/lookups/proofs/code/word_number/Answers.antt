@@ -9,16 +9,16 @@ pub overflow_cast-result : goal.overflow_cast-result
 overflow_cast-result c =
     let a = c.args in
     let i = a.im.now in
-    let s = sound_tables i.words.now i.tables in
-    let k = in_code_lem i.words.now a.at i.tables c.requires in
-    let b = word_number_below i.words.now a.at i.tables c.requires in
+    let s = sound_tables i.words.now i.sound in
+    let k = in_code_lem i.words.now a.at i.sound c.requires in
+    let b = word_number_below i.words.now a.at i.sound c.requires in
     record { fits = omega (arith, c.words_before-before.ensures) }
 
 pub overflow_add-result : goal.overflow_add-result
 overflow_add-result c =
     let a = c.args in
     let i = a.im.now in
-    let s = sound_tables i.words.now i.tables in
-    let k = in_code_lem i.words.now a.at i.tables c.requires in
-    let b = word_number_below i.words.now a.at i.tables c.requires in
+    let s = sound_tables i.words.now i.sound in
+    let k = in_code_lem i.words.now a.at i.sound c.requires in
+    let b = word_number_below i.words.now a.at i.sound c.requires in
     record { fits = omega (arith, c.words_before-before.ensures) }

@@ -14,6 +14,6 @@ pub returns : goal.returns
 returns c =
     let a = c.args in
     rw (c.clear.ensures, c.code_words.ensures)
-    (begins_done a.im.now.words.now a.im.now.«data».now a.starts.now a.two a.thirteen a.map.now a.stack.now
+    (begins_done a.im.now.tables.words.now a.im.now.«data».now a.starts.now a.two a.thirteen a.map.now a.stack.now
     (λ from upto. sym (c.judge.ensures a.two a.thirteen from upto) ∙ c.in_ok-judge.was)
     (rw (cells_state c.put_state.ensures, c.new_with_base.ensures) at c.push_keys-t.ensures.piles))

@@ -10,9 +10,9 @@ use Rattle.walk.proofs.starts.judge.Goals as goal
 pub returns-then-has_room : goal.returns-then-has_room
 returns-then-has_room c =
     let a = c.args in
-    λ two thirteen from upto. c.judge_starts.ensures ∙ sym (judges_starts (given a.im.now.words.now a.im.now.«data».now (places_of a.starts.now) two thirteen from upto) a.map.now (image_sound _ _ a.im.now.tables a.im.now.inside) (rw c.code_words.ensures at (sym c.has_room.ensures ∙ c.if-has_room.true)))
+    λ two thirteen from upto. c.judge_starts.ensures ∙ sym (judges_starts (given a.im.now.tables.words.now a.im.now.«data».now (places_of a.starts.now) two thirteen from upto) a.map.now (image_sound _ _ a.im.now.tables.sound a.im.now.inside) (rw c.code_words.ensures at (sym c.has_room.ensures ∙ c.if-has_room.true)))
 
 pub returns : goal.returns
 returns c =
     let a = c.args in
-    λ two thirteen from upto. sym (judged_4 (given a.im.now.words.now a.im.now.«data».now (places_of a.starts.now) two thirteen from upto) a.map.now (image_sound _ _ a.im.now.tables a.im.now.inside) (rw c.code_words.ensures at (sym c.has_room.ensures ∙ c.if-has_room.false)))
+    λ two thirteen from upto. sym (judged_4 (given a.im.now.tables.words.now a.im.now.«data».now (places_of a.starts.now) two thirteen from upto) a.map.now (image_sound _ _ a.im.now.tables.sound a.im.now.inside) (rw c.code_words.ensures at (sym c.has_room.ensures ∙ c.if-has_room.false)))
