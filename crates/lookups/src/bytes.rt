@@ -3,9 +3,9 @@ ghost use Rattle.std.specs.Prelude.{◌≡◌, ◌+◌, ◌-◌, ◌≤◌, ◌<
 ghost use Rattle.lookups.specs.Bytes.{has_data, data_from, data_offset, word_at};
 
 use crate::sections::is_within;
-use image::{Image, Tables};
 use image::numbers::BSS;
 use image::table::{section, section_count};
+use image::{Image, Tables};
 use places::SectionAddress;
 use words::bytes::four;
 

@@ -5,10 +5,10 @@ ghost use Rattle.lookups.specs.Code.{in_code, code_place, word_number};
 
 use crate::sections::is_within;
 use crate::{PlaceError, WordNumber};
-use image::{Image, Tables};
 use image::code::words_before;
 use image::numbers::CODE;
 use image::table::{section, section_count};
+use image::{Image, Tables};
 use places::SectionAddress;
 use words::bytes::four;
 
