@@ -3,8 +3,8 @@ ghost use Rattle.std.specs.Prelude.{◌≡◌};
 ghost use Rattle.jump_tables.specs.Readings.{bare_entry, in_function, sized_target, sized_word, guessed_target, guessed_word, sized_reading, guessed_reading, reading_of};
 
 use crate::{How, Reading};
-use image::{Image, Tables};
 use image::numbers::EXECUTABLE;
+use image::{Image, Tables};
 use lookups::{Wanted, at_address, read_u32, relocation_target_for};
 use places::{RelocationTarget, SectionAddress, is_before};
 
