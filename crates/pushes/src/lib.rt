@@ -42,7 +42,7 @@ fn nothing(count: usize) -> Taken
 }
 
 // One place with what a way makes of the state: pushed if it is an aligned code word, sorted.
-pub(crate) fn push_at(
+pub fn push_at(
     im: &Tables<'_>,
     stack: &mut [u32],
     count: usize,
@@ -137,7 +137,14 @@ fn take_call(
     requires stack { Stack stack.old count × (length entries.old ≡ table_room) }
     ensures { TakenWays im.now.tables.words.now im.now.«data».now from upto stack.old count entries.old at (Leave.Call t) (state_of cells.now) stack.new entries.new result }
 {
-    let first = push_at(&im.tables, stack, count, places::offset(at, 4), cells, Made::Return);
+    let first = push_at(
+        &im.tables,
+        stack,
+        count,
+        places::offset(at, 4),
+        cells,
+        Made::Return,
+    );
     if first.full {
         return first;
     }
@@ -219,7 +226,14 @@ fn take_both(
     requires stack { Stack stack.old count × (length entries.old ≡ table_room) }
     ensures { TakenWays im.now.tables.words.now im.now.«data».now from upto stack.old count entries.old at (Leave.Both t) (state_of cells.now) stack.new entries.new result }
 {
-    let first = push_at(&im.tables, stack, count, places::offset(at, 4), cells, Made::Same);
+    let first = push_at(
+        &im.tables,
+        stack,
+        count,
+        places::offset(at, 4),
+        cells,
+        Made::Same,
+    );
     if first.full {
         return first;
     }

@@ -68,7 +68,7 @@ fn not_read(count: usize) -> Taken
 }
 
 // A table: read, or External or refused and then counted as not read; its entries are pushed ascending, a refused one has none.
-pub(crate) fn take_table(
+pub fn take_table(
     im: &Image<'_>,
     from: SectionAddress,
     upto: Option<SectionAddress>,

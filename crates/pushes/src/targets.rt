@@ -10,14 +10,14 @@ use places::{RelocationTarget, SectionAddress};
 use vm::BranchTarget;
 
 // Whether a place is an aligned word of code.
-pub(crate) fn is_word(im: &Tables<'_>, q: SectionAddress) -> bool
+pub fn is_word(im: &Tables<'_>, q: SectionAddress) -> bool
     ensures { result ≡ is_fine (code_place im.now.words.now q) }
 {
     matches!(code_place(im, q), Ok(()))
 }
 
 // Whether a target is a word of code or a table: where it is not, no state is made for it.
-pub(crate) fn is_way(im: &Tables<'_>, t: BranchTarget) -> bool
+pub fn is_way(im: &Tables<'_>, t: BranchTarget) -> bool
     ensures { result ≡ is_way im.now.words.now t }
 {
     match t {

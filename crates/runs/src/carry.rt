@@ -20,7 +20,7 @@ use vm::{Cr, GprValue};
 use words::field;
 
 // How the word leaves.
-pub(crate) fn leaves(im: &Tables<'_>, at: SectionAddress, w: u32, way: Way, cells: &[u32]) -> Leave
+pub fn leaves(im: &Tables<'_>, at: SectionAddress, w: u32, way: Way, cells: &[u32]) -> Leave
     requires { Cells cells.now (state_of cells.now) }
     ensures { result ≡ leave_of way im.now.words.now at w (state_of cells.now).ctr.value (cr_at (state_of cells.now) (bi_of w / 4)) }
 {
@@ -73,13 +73,7 @@ pub fn compared(w: u32, right: GprValue, signed: bool, cells: &mut [u32])
 }
 
 // Any effect: the state after it stands in the cells, or, where the word leaves, the state as it was.
-pub(crate) fn carry(
-    im: &Tables<'_>,
-    at: SectionAddress,
-    w: u32,
-    e: Effect,
-    cells: &mut [u32],
-) -> Leave
+pub fn carry(im: &Tables<'_>, at: SectionAddress, w: u32, e: Effect, cells: &mut [u32]) -> Leave
     requires { Cells cells.old (state_of cells.old) }
     ensures { Carries im.now.words.now at w e (state_of cells.old) result cells.new }
 {

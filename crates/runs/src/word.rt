@@ -97,7 +97,7 @@ fn extended(im: &Tables<'_>, at: SectionAddress, w: u32, cells: &mut [u32]) -> L
 }
 
 // What the word does to the state in the cells, or how it leaves; Ended says that the run goes on.
-pub(crate) fn one(im: &Tables<'_>, at: SectionAddress, w: u32, cells: &mut [u32]) -> Leave
+pub fn one(im: &Tables<'_>, at: SectionAddress, w: u32, cells: &mut [u32]) -> Leave
     requires { Cells cells.old (state_of cells.old) }
     ensures { Went im.now.words.now at w (state_of cells.old) result cells.new }
 {

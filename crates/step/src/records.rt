@@ -148,7 +148,7 @@ fn reach(im: &Tables<'_>, at: SectionAddress, base: GprValue, simm: u32) -> Opti
 
 // The displacement loads and stores
 #[tactic(auto, unfolding(crate::specs::Arms::access_of))]
-pub(crate) fn access(im: &Tables<'_>, at: SectionAddress, w: u32, op: Op, ga: Gpr) -> Effect
+pub fn access(im: &Tables<'_>, at: SectionAddress, w: u32, op: Op, ga: Gpr) -> Effect
     ensures { result ≡ access_of op im.now.words.now at w ga }
 {
     let seen = reach(im, at, ga.value, field::simm(w));

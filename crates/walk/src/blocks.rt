@@ -62,12 +62,7 @@ fn is_new(im: &Tables<'_>, map: &[u32], q: SectionAddress) -> bool
 
 // The block at a word of code, from the state in the cells. What it runs over is marked; the word that leaves is marked and not yet
 // followed, and the cells hold the state before it.
-pub(crate) fn run_block(
-    im: &Image<'_>,
-    map: &mut [u32],
-    from: SectionAddress,
-    cells: &mut [u32],
-) -> Ended
+pub fn run_block(im: &Image<'_>, map: &mut [u32], from: SectionAddress, cells: &mut [u32]) -> Ended
     requires { (code_words im.now.tables.words.now ≤ length map.old * 32) × (is_fine (code_place im.now.tables.words.now from) ≡ true) × Cells cells.old (state_of cells.old) }
     ensures { Cells cells.new (state_of cells.new) × ((start : SectionAddress) (end : Option SectionAddress) (slots : ℕ) → Block (ground_of im.now.tables.words.now im.now.«data».now start end slots) from (state_of cells.old) map.old (ending_of result (state_of cells.new)) map.new) }
 {

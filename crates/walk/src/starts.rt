@@ -8,8 +8,8 @@ ghost use Rattle.walk.specs.Starts.{places_of, Begins};
 use crate::Begun;
 use cells::STATE_WORDS;
 use clones::Made;
-use image::{Image, Tables};
 use image::code::code_words;
+use image::{Image, Tables};
 use lookups::{PlaceError, code_place};
 use places::SectionAddress;
 use pushes::tables::{place_of, push_keys};
@@ -64,7 +64,15 @@ pub(crate) fn begin(
     visited::clear(map, code_words(im.tables.words));
     let mut fresh = [0u32; STATE_WORDS];
     cells::put_state(&mut fresh, new_with_base(two, thirteen));
-    let t = push_keys(&im.tables, stack, 0, starts, starts.len(), &fresh, Made::Same);
+    let t = push_keys(
+        &im.tables,
+        stack,
+        0,
+        starts,
+        starts.len(),
+        &fresh,
+        Made::Same,
+    );
     Ok(Begun {
         held: t.held,
         full: t.full,
