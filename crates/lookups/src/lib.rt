@@ -1,6 +1,6 @@
 // Every lookup in an image, by the names of the Rust where it has them.
-// Each requires sound tables (image::check_image says so) and is called by our own crates alone.
-#![tactic(auto, using(image::proofs::SoundTables::laid, image::proofs::SoundTables::sound_tables, search::proofs::FirstMatch::first_below))]
+// Each takes an image that breaks no rule, and is called by our own crates alone.
+#![tactic(auto, using(image::proofs::SoundTables::laid, image::proofs::SoundTables::sound_tables, search::proofs::FirstMatch::first_below), unfolding(crate::specs::Relocations::relocation_for, crate::specs::Relocations::section_address_for))]
 
 use places::RelocationTarget;
 

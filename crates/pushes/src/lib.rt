@@ -1,12 +1,11 @@
 // What a word asks when it leaves a block: places are pushed in order, each with its own state; a table is read, then its entries pushed.
-// Requires a sound image, words and a count that are a stack, and cells that hold the state; our own crates alone call these.
+// Requires words and a count that are a stack, and cells that hold the state; our own crates alone call these.
 #![tactic(auto)]
 
 pub mod tables;
 pub mod targets;
 
-ghost use Rattle.std.specs.Prelude.{◌≡◌, true, length};
-ghost use Rattle.image.specs.Rules.{tables_sound, data_inside};
+ghost use Rattle.std.specs.Prelude.{◌≡◌, length};
 ghost use Rattle.cells.specs.Cells.{state_of, Cells};
 ghost use Rattle.clones.specs.Clones.{made_of};
 ghost use Rattle.stack.specs.Stack.{Stack};
@@ -14,6 +13,7 @@ ghost use Rattle.turns.specs.Moves.{table_room};
 ghost use Rattle.pushes.specs.Takes.{none, PushedAt, TakenTarget, TakenWays};
 
 use clones::Made;
+use image::Image;
 use places::{RelocationTarget, SectionAddress};
 use step::Leave;
 use tables::take_table;
@@ -42,16 +42,16 @@ fn nothing(count: usize) -> Taken
 }
 
 // One place with what a way makes of the state: pushed if it is an aligned code word, sorted.
-pub fn push_at(
-    im: &[u32],
+pub(crate) fn push_at(
+    im: &Image<'_>,
     stack: &mut [u32],
     count: usize,
     q: SectionAddress,
     cells: &[u32],
     made: Made,
 ) -> Taken
-    requires { (tables_sound im.now ≡ true) × Stack stack.old count × Cells cells.now (state_of cells.now) }
-    ensures { PushedAt im.now stack.old count q (made_of made (state_of cells.now)) stack.new result }
+    requires { Stack stack.old count × Cells cells.now (state_of cells.now) }
+    ensures { PushedAt im.now.words.now stack.old count q (made_of made (state_of cells.now)) stack.new result }
 {
     if is_word(im, q) {
         let p = stack::push(stack, count, q, cells, made, true);
@@ -67,8 +67,7 @@ pub fn push_at(
 
 // A target with its state: a place, or a table.
 fn take_target(
-    im: &[u32],
-    bytes: &[u8],
+    im: &Image<'_>,
     from: SectionAddress,
     upto: Option<SectionAddress>,
     stack: &mut [u32],
@@ -78,9 +77,9 @@ fn take_target(
     cells: &[u32],
     made: Made,
 ) -> Taken
-    requires im_value { (tables_sound im.now ≡ true) × (data_inside im.now (length bytes.now) ≡ true) × Cells cells.now (state_of cells.now) }
+    requires cells { Cells cells.now (state_of cells.now) }
     requires stack { Stack stack.old count × (length entries.old ≡ table_room) }
-    ensures { TakenTarget im.now bytes.now from upto stack.old count entries.old t (made_of made (state_of cells.now)) stack.new entries.new result }
+    ensures { TakenTarget im.now.words.now im.now.«data».now from upto stack.old count entries.old t (made_of made (state_of cells.now)) stack.new entries.new result }
 {
     match t {
         BranchTarget::Unknown => nothing(count),
@@ -91,7 +90,7 @@ fn take_target(
         },
         BranchTarget::JumpTable { address, size } => {
             take_table(
-                im, bytes, from, upto, stack, count, entries, address, size, cells, made,
+                im, from, upto, stack, count, entries, address, size, cells, made,
             )
         }
     }
@@ -99,8 +98,7 @@ fn take_target(
 
 // A jump: into another section, or through a table. One inside the section is not taken here.
 fn take_jump(
-    im: &[u32],
-    bytes: &[u8],
+    im: &Image<'_>,
     from: SectionAddress,
     upto: Option<SectionAddress>,
     stack: &mut [u32],
@@ -110,9 +108,9 @@ fn take_jump(
     t: BranchTarget,
     cells: &[u32],
 ) -> Taken
-    requires im_value { (tables_sound im.now ≡ true) × (data_inside im.now (length bytes.now) ≡ true) × Cells cells.now (state_of cells.now) }
+    requires cells { Cells cells.now (state_of cells.now) }
     requires stack { Stack stack.old count × (length entries.old ≡ table_room) }
-    ensures { TakenWays im.now bytes.now from upto stack.old count entries.old at (Leave.Jump t) (state_of cells.now) stack.new entries.new result }
+    ensures { TakenWays im.now.words.now im.now.«data».now from upto stack.old count entries.old at (Leave.Jump t) (state_of cells.now) stack.new entries.new result }
 {
     if stays_in(at, t) {
         return nothing(count);
@@ -120,7 +118,6 @@ fn take_jump(
     if is_way(im, t) {
         return take_target(
             im,
-            bytes,
             from,
             upto,
             stack,
@@ -136,8 +133,7 @@ fn take_jump(
 
 // A linked branch: the next word, back from the call, then the target, into it.
 fn take_call(
-    im: &[u32],
-    bytes: &[u8],
+    im: &Image<'_>,
     from: SectionAddress,
     upto: Option<SectionAddress>,
     stack: &mut [u32],
@@ -147,9 +143,9 @@ fn take_call(
     t: BranchTarget,
     cells: &[u32],
 ) -> Taken
-    requires im_value { (tables_sound im.now ≡ true) × (data_inside im.now (length bytes.now) ≡ true) × Cells cells.now (state_of cells.now) }
+    requires cells { Cells cells.now (state_of cells.now) }
     requires stack { Stack stack.old count × (length entries.old ≡ table_room) }
-    ensures { TakenWays im.now bytes.now from upto stack.old count entries.old at (Leave.Call t) (state_of cells.now) stack.new entries.new result }
+    ensures { TakenWays im.now.words.now im.now.«data».now from upto stack.old count entries.old at (Leave.Call t) (state_of cells.now) stack.new entries.new result }
 {
     let first = push_at(im, stack, count, places::offset(at, 4), cells, Made::Return);
     if first.full {
@@ -158,7 +154,6 @@ fn take_call(
     if is_way(im, t) {
         return take_target(
             im,
-            bytes,
             from,
             upto,
             stack,
@@ -174,8 +169,7 @@ fn take_call(
 
 // A conditional branch: the next word, then the target, each with what it knows of the compared registers.
 fn take_fork(
-    im: &[u32],
-    bytes: &[u8],
+    im: &Image<'_>,
     from: SectionAddress,
     upto: Option<SectionAddress>,
     stack: &mut [u32],
@@ -188,9 +182,9 @@ fn take_fork(
     goes: GprValue,
     cells: &[u32],
 ) -> Taken
-    requires im_value { (tables_sound im.now ≡ true) × (data_inside im.now (length bytes.now) ≡ true) × Cells cells.now (state_of cells.now) }
+    requires cells { Cells cells.now (state_of cells.now) }
     requires stack { Stack stack.old count × (length entries.old ≡ table_room) }
-    ensures { TakenWays im.now bytes.now from upto stack.old count entries.old at (Leave.Fork t crf stays goes) (state_of cells.now) stack.new entries.new result }
+    ensures { TakenWays im.now.words.now im.now.«data».now from upto stack.old count entries.old at (Leave.Fork t crf stays goes) (state_of cells.now) stack.new entries.new result }
 {
     let first = push_at(
         im,
@@ -206,7 +200,6 @@ fn take_fork(
     if is_way(im, t) {
         return take_target(
             im,
-            bytes,
             from,
             upto,
             stack,
@@ -222,8 +215,7 @@ fn take_fork(
 
 // A conditional branch that tells nothing.
 fn take_both(
-    im: &[u32],
-    bytes: &[u8],
+    im: &Image<'_>,
     from: SectionAddress,
     upto: Option<SectionAddress>,
     stack: &mut [u32],
@@ -233,9 +225,9 @@ fn take_both(
     t: BranchTarget,
     cells: &[u32],
 ) -> Taken
-    requires im_value { (tables_sound im.now ≡ true) × (data_inside im.now (length bytes.now) ≡ true) × Cells cells.now (state_of cells.now) }
+    requires cells { Cells cells.now (state_of cells.now) }
     requires stack { Stack stack.old count × (length entries.old ≡ table_room) }
-    ensures { TakenWays im.now bytes.now from upto stack.old count entries.old at (Leave.Both t) (state_of cells.now) stack.new entries.new result }
+    ensures { TakenWays im.now.words.now im.now.«data».now from upto stack.old count entries.old at (Leave.Both t) (state_of cells.now) stack.new entries.new result }
 {
     let first = push_at(im, stack, count, places::offset(at, 4), cells, Made::Same);
     if first.full {
@@ -244,7 +236,6 @@ fn take_both(
     if is_way(im, t) {
         return take_target(
             im,
-            bytes,
             from,
             upto,
             stack,
@@ -260,8 +251,7 @@ fn take_both(
 
 // What a word that leaves asks: its ways in order, each with its own state; a table is read, then its entries are pushed ascending.
 pub fn take(
-    im: &[u32],
-    bytes: &[u8],
+    im: &Image<'_>,
     from: SectionAddress,
     upto: Option<SectionAddress>,
     stack: &mut [u32],
@@ -271,22 +261,22 @@ pub fn take(
     l: Leave,
     cells: &[u32],
 ) -> Taken
-    requires im_value { (tables_sound im.now ≡ true) × (data_inside im.now (length bytes.now) ≡ true) × Cells cells.now (state_of cells.now) }
+    requires cells { Cells cells.now (state_of cells.now) }
     requires stack { Stack stack.old count × (length entries.old ≡ table_room) }
-    ensures { TakenWays im.now bytes.now from upto stack.old count entries.old at l (state_of cells.now) stack.new entries.new result }
+    ensures { TakenWays im.now.words.now im.now.«data».now from upto stack.old count entries.old at l (state_of cells.now) stack.new entries.new result }
 {
     match l {
         Leave::Ended | Leave::Illegal => nothing(count),
-        Leave::Jump(t) => take_jump(im, bytes, from, upto, stack, count, entries, at, t, cells),
-        Leave::Call(t) => take_call(im, bytes, from, upto, stack, count, entries, at, t, cells),
+        Leave::Jump(t) => take_jump(im, from, upto, stack, count, entries, at, t, cells),
+        Leave::Call(t) => take_call(im, from, upto, stack, count, entries, at, t, cells),
         Leave::Fork {
             target,
             crf,
             stays,
             goes,
         } => take_fork(
-            im, bytes, from, upto, stack, count, entries, at, target, crf, stays, goes, cells,
+            im, from, upto, stack, count, entries, at, target, crf, stays, goes, cells,
         ),
-        Leave::Both(t) => take_both(im, bytes, from, upto, stack, count, entries, at, t, cells),
+        Leave::Both(t) => take_both(im, from, upto, stack, count, entries, at, t, cells),
     }
 }

@@ -1,15 +1,18 @@
 -- One turn of the loop over blocks: a popped state is skipped, or its block runs and ends; what the code's loop keeps, and where it
 -- ends the answer. Assumes that nothing is refused.
 use Prim.Native.Nat.{ℕ, ◌+◌, ◌-◌, ◌*◌, ◌≤◌, ◌<◌}
-use mathlib.Core.Path.{◌≡◌, sym, ◌∙◌}
+use mathlib.Core.Path.{◌≡◌, refl, sym, ◌∙◌}
 use mathlib.Core.Bool.{Bool, true, false}
 use mathlib.Core.List.{List}
 use native.Mathlib.Omega.{arith}
 use lib.ListN.{length}
-use Rattle.std.specs.Prelude.{Some, None, Result, Ok, Err, Option}
+use Rattle.std.specs.Prelude.{Some, None, ⊤, Result, Ok, Err, Option}
+use Rattle.words.specs.Choice.{pick}
 use Rattle.places.specs.declared.SectionAddress.{SectionAddress}
 use Rattle.image.specs.Numbers.{max_code_words}
-use Rattle.image.specs.Rules.{code_words, sound}
+use Rattle.image.specs.declared.BrokenImage.{BrokenImage}
+use Rattle.image.specs.Rules.{code_words, sound, broken}
+use Rattle.image.specs.Rules as image
 use Rattle.lookups.specs.Code.{code_place, word_number}
 use Rattle.vm.specs.States.{bases_of}
 use Rattle.step.specs.declared.Leave.{Leave}
@@ -17,6 +20,7 @@ use Rattle.stack.specs.Stack.{Stack, entries, held_at, room}
 use Rattle.stack.proofs.Stacks.{pop_entries, pop_stack}
 use Rattle.visited.specs.Bits.{visited_at}
 use Rattle.turns.specs.declared.WalkError.{WalkError}
+use Rattle.turns.specs.declared.WalkError.TheVariants as error
 use Rattle.turns.specs.Grounds.{idle, conf}
 use Rattle.turns.specs.Moves.{Lent, is_fine, ground_of}
 use Rattle.turns.specs.Walks.{Given, given, ground_in, judged, refused_with, walked}
@@ -26,12 +30,13 @@ use Rattle.turns.proofs.Pushes.{AtWord}
 use Rattle.turns.proofs.Counts.{Sound}
 use Rattle.turns.proofs.WalkEnds.{reach_sound}
 use Rattle.turns.proofs.Starts.{start_sound}
-use Rattle.turns.proofs.WalkLaws.{image_sound, map_room, lawful}
+use Rattle.turns.proofs.WalkLaws.{map_room, lawful}
 use Rattle.turns.proofs.HeadLaws.{head_fits, head_full, head_empty, head_pop_old, head_past, head_jump_out, head_jump_old, head_leave}
 use Rattle.pushes.specs.declared.Taken.{Taken}
 use Rattle.pushes.specs.Takes.{TakenWays}
 use Rattle.walk.specs.declared.Begun.{Begun}
 use Rattle.walk.specs.Starts.{places_of, Begins}
+use Rattle.walk.proofs.StartLaws.{judged_1}
 use Rattle.walk.specs.Blocks.{Last, past, jumps_out, jumps_old, leaves_by, Block, Ending, Followed, stays, goes}
 
 some_not_none : {A : Type 0} (l : Leave) → Some l ≡ None → A
@@ -118,6 +123,17 @@ module _ (i : Given) (vis : List ℕ) (lent : Lent) (fine : judged i vis ≡ Ok 
           rw (e, f, g, read, unread) (turn_idle o)
       turn_follows (goes l o taken) = turn_takes l o taken
 
+-- a broken image is refused, and everything stays as it was
+of_broken : (i : Given) (vis : List ℕ) (e : BrokenImage) (b : Bool) → sound i.tables (length i.bytes) ≡ b
+    → ◌≡◌ {A = Result ⊤ BrokenImage} (pick b (Ok tt) (Err broken)) (Err e) → judged i vis ≡ Err error.BrokenImage
+of_broken i vis e true s q = let z : ◌≡◌ {A = ℕ} 0 1 = cc in absurd (omega arith)
+of_broken i vis e false s q = judged_1 i vis s
+
+pub walk_broken : (i : Given) (vis : List ℕ) (lent : Lent) {e : BrokenImage} → image.judged i.tables (length i.bytes) ≡ Err e
+    → walked i vis lent ≡ refused_with error.BrokenImage vis lent
+unfolding walked
+walk_broken i vis lent {e} q = rw (of_broken i vis e (sound i.tables (length i.bytes)) refl q)
+
 -- what the loop keeps: from where it began, whatever the walk's starts were
 abbrev pub Kept : List ℕ → List ℕ → SectionAddress → Option SectionAddress → List ℕ → ℕ → List ℕ → Bool → List ℕ
     → List ℕ → ℕ → List ℕ → Bool → List ℕ → ℕ → ℕ → ℕ → ℕ → Type 0
@@ -148,9 +164,6 @@ module _ {ws bs starts : List ℕ} {two thirteen : (Option ℕ)} {vis words : Li
 
     fine : judged i vis ≡ Ok tt
     fine = first.0
-
-    pub walk_sound : sound ws (length bs) ≡ true
-    walk_sound = image_sound i vis lent fine
 
     module _ {words'' : List ℕ} {k : ℕ} {buffer'' : List ℕ} {full : Bool} {v : List ℕ} {a b c d : ℕ}
         (kept : Kept ws bs from upto words' b₀.held buffer b₀.full vis' words'' k buffer'' full v a b c d) where

@@ -9,18 +9,18 @@ use Rattle.pushes.proofs.take_fork.Goals as goal
 
 pub returns-then-first : goal.returns-then-first
 returns-then-first c = let a = c.args in
-    taken_refused a.im.now a.bytes.now a.from a.upto a.stack.now a.count a.entries.now a.at (Fork a.t a.crf a.stays a.goes) (state_of a.cells.now) c.push_at-first.ensures a.t (with_result (state_of a.cells.now) a.goes a.crf) (rw c.offset.ensures (leaving_fork a.at (state_of a.cells.now) a.t a.crf a.stays a.goes)) c.requires.stack.1 c.if-first.true
+    taken_refused a.im.now.words.now a.im.now.«data».now a.from a.upto a.stack.now a.count a.entries.now a.at (Fork a.t a.crf a.stays a.goes) (state_of a.cells.now) c.push_at-first.ensures a.t (with_result (state_of a.cells.now) a.goes a.crf) (rw c.offset.ensures (leaving_fork a.at (state_of a.cells.now) a.t a.crf a.stays a.goes)) c.requires.stack.1 c.if-first.true
 
 pub take_target-requires : goal.take_target-requires
-take_target-requires c = let a = c.args in record { im_value = c.requires.im_value; stack = ((c.push_at-first.ensures.piles a.bytes.now a.from a.upto a.entries.now).held, c.requires.stack.1) }
+take_target-requires c = let a = c.args in record { cells = c.requires.cells; stack = ((c.push_at-first.ensures.piles a.im.now.«data».now a.from a.upto a.entries.now).held, c.requires.stack.1) }
 
 pub returns-then-is_way : goal.returns-then-is_way
 returns-then-is_way c = let a = c.args in
     let second = c.take_target in
-    taken_both a.im.now a.bytes.now a.from a.upto a.stack.now a.count a.entries.now a.at (Fork a.t a.crf a.stays a.goes) (state_of a.cells.now) c.push_at-first.ensures a.t (with_result (state_of a.cells.now) a.goes a.crf) (rw c.offset.ensures (leaving_fork a.at (state_of a.cells.now) a.t a.crf a.stays a.goes)) c.requires.stack.1 c.if-first.false
+    taken_both a.im.now.words.now a.im.now.«data».now a.from a.upto a.stack.now a.count a.entries.now a.at (Fork a.t a.crf a.stays a.goes) (state_of a.cells.now) c.push_at-first.ensures a.t (with_result (state_of a.cells.now) a.goes a.crf) (rw c.offset.ensures (leaving_fork a.at (state_of a.cells.now) a.t a.crf a.stays a.goes)) c.requires.stack.1 c.if-first.false
     (second.auto.entries ∙ c.requires.stack.1) second.ensures
 
 pub returns : goal.returns
 returns c = let a = c.args in
-    taken_first a.im.now a.bytes.now a.from a.upto a.stack.now a.count a.entries.now a.at (Fork a.t a.crf a.stays a.goes) (state_of a.cells.now) c.push_at-first.ensures a.t (with_result (state_of a.cells.now) a.goes a.crf) (rw c.offset.ensures (leaving_fork a.at (state_of a.cells.now) a.t a.crf a.stays a.goes)) c.requires.stack.1 c.if-first.false
+    taken_first a.im.now.words.now a.im.now.«data».now a.from a.upto a.stack.now a.count a.entries.now a.at (Fork a.t a.crf a.stays a.goes) (state_of a.cells.now) c.push_at-first.ensures a.t (with_result (state_of a.cells.now) a.goes a.crf) (rw c.offset.ensures (leaving_fork a.at (state_of a.cells.now) a.t a.crf a.stays a.goes)) c.requires.stack.1 c.if-first.false
     (sym c.is_way.ensures ∙ c.if-is_way.false)

@@ -4,7 +4,7 @@ use native.Mathlib.Omega.{arith}
 use Rattle.runs.proofs.carry.leaves.Goals as goal
 
 pub ctr_in-requires : goal.ctr_in-requires
-ctr_in-requires c = omega (arith, cells_long c.requires.1)
+ctr_in-requires c = omega (arith, cells_long c.requires)
 
 pub compare_in-requires : goal.compare_in-requires
-compare_in-requires c = (omega (arith, cells_long c.requires.1), omega (arith, c.bi.ensures))
+compare_in-requires c = (omega (arith, cells_long c.requires), omega (arith, c.bi.ensures))
