@@ -4,13 +4,13 @@ ghost use Rattle.executor.specs.Reply.{jumped, followed};
 
 use crate::stepping::drop;
 use crate::{ExecCbResult, Execution, Phase, Refusal};
-use image::Image;
+use image::Tables;
 use places::SectionAddress;
 
 // Continue runs on at the next word, visited or not; a Jump at its word, or drops the run where that was visited;
 // EndBlock and End drop it. A Jump's place is judged: OtherSection (6), NotCode (2), Misaligned (3).
-pub(crate) fn follow(
-    im: &Image<'_>,
+pub fn follow(
+    im: &Tables<'_>,
     map: &[u32],
     run: Execution,
     how: ExecCbResult,
@@ -29,7 +29,7 @@ pub(crate) fn follow(
 }
 
 fn jump(
-    im: &Image<'_>,
+    im: &Tables<'_>,
     map: &[u32],
     run: Execution,
     q: SectionAddress,

@@ -140,7 +140,7 @@ pub fn push(
     ensures { PushesTo im.now (length «data».now) stack.old count p s sorted result stack.new }
 {
     let im = &judge(im, data, stack, count, Phase::Idle, p)?;
-    lookups::code_place(im, p)?;
+    lookups::code_place(&im.tables, p)?;
     stack::push_state(stack, count, p, s, sorted).ok_or(Refusal::StackFull)
 }
 
@@ -158,7 +158,7 @@ pub fn next(
     ensures { AnsweredBy (next_call im.now «data».now stack.now count map.old run) result map.new }
 {
     let im = &judge(im, data, stack, count, run.phase, run.at)?;
-    require_room(im, map)?;
+    require_room(&im.tables, map)?;
     match run.phase {
         Phase::Waiting => Err(Refusal::OutOfTurn),
         Phase::Running => Ok(stepping::resume(im, map, count, run)),
@@ -181,10 +181,10 @@ pub fn reply(
     ensures { result ≡ reply_call im.now (length «data».now) stack.now count map.now run how }
 {
     let im = &judge(im, data, stack, count, run.phase, run.at)?;
-    require_room(im, map)?;
+    require_room(&im.tables, map)?;
     match run.phase {
         Phase::Idle | Phase::Running => Err(Refusal::OutOfTurn),
-        Phase::Waiting => following::follow(im, map, run, how),
+        Phase::Waiting => following::follow(&im.tables, map, run, how),
     }
 }
 
@@ -194,7 +194,7 @@ pub fn visited(im: &[u32], data: &[u8], map: &[u32], p: SectionAddress) -> Resul
     ensures { result ≡ visit_call im.now (length «data».now) map.now p }
 {
     let im = &Image::new(im, data)?;
-    require_room(im, map)?;
-    lookups::code_place(im, p)?;
-    Ok(visited::contains(map, lookups::word_number(im, p)))
+    require_room(&im.tables, map)?;
+    lookups::code_place(&im.tables, p)?;
+    Ok(visited::contains(map, lookups::word_number(&im.tables, p)))
 }

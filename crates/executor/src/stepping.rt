@@ -9,7 +9,7 @@ ghost use Rattle.executor.specs.Standing.{standing, dropped};
 
 use crate::judge::is_word;
 use crate::{Execution, Handed, Phase};
-use image::Image;
+use image::{Image, Tables};
 use places::SectionAddress;
 use step::StepResult;
 use vm::VM;
@@ -56,11 +56,11 @@ fn step_at(
     start: SectionAddress,
     s: VM,
 ) -> Handed
-    requires { is_word im.now.words.now at ≡ true }
-    ensures { AnsweredWith (stepped_at im.now.words.now im.now.«data».now [] map.old at start s) count (Ok result) map.new }
+    requires { is_word im.now.tables.words.now at ≡ true }
+    ensures { AnsweredWith (stepped_at im.now.tables.words.now im.now.«data».now [] map.old at start s) count (Ok result) map.new }
 {
-    visited::insert(map, lookups::word_number(im, at));
-    let stepped = step::done::step_word(im, at, lookups::code_word(im, at), s);
+    visited::insert(map, lookups::word_number(&im.tables, at));
+    let stepped = step::done::step_word(&im.tables, at, lookups::code_word(im, at), s);
     Handed {
         step: Some(stepped),
         run: Execution {
@@ -74,17 +74,17 @@ fn step_at(
 }
 
 // A run goes on at its word; past its section's end it is dropped, and nothing is popped.
-pub(crate) fn resume(im: &Image<'_>, map: &mut [u32], count: usize, run: Execution) -> Handed
-    ensures { AnsweredWith (resumed im.now.words.now im.now.«data».now (standing [] map.old run)) count (Ok result) map.new }
+pub fn resume(im: &Image<'_>, map: &mut [u32], count: usize, run: Execution) -> Handed
+    ensures { AnsweredWith (resumed im.now.tables.words.now im.now.«data».now (standing [] map.old run)) count (Ok result) map.new }
 {
-    if is_word(im, run.at) {
+    if is_word(&im.tables, run.at) {
         return step_at(im, map, count, run.at, run.block_start, run.vm);
     }
     ended(count, run)
 }
 
 // How many states are left where visited ones are taken off the top.
-fn highest(im: &Image<'_>, map: &[u32], stack: &[u32], count: usize) -> usize
+fn highest(im: &Tables<'_>, map: &[u32], stack: &[u32], count: usize) -> usize
     requires { Stack stack.now count × (all_words im.now.words.now (entries stack.now count) ≡ true) }
     ensures { Tops im.now.words.now map.now stack.now count result }
 {
@@ -98,17 +98,11 @@ fn highest(im: &Image<'_>, map: &[u32], stack: &[u32], count: usize) -> usize
 }
 
 // The highest unvisited state is popped and its word stepped; no such state: the stack is empty.
-pub(crate) fn pop(
-    im: &Image<'_>,
-    map: &mut [u32],
-    stack: &[u32],
-    count: usize,
-    run: Execution,
-) -> Handed
-    requires { Stack stack.now count × (all_words im.now.words.now (entries stack.now count) ≡ true) }
-    ensures { AnsweredBy (popped im.now.words.now im.now.«data».now (standing (entries stack.now count) map.old run)) (Ok result) map.new }
+pub fn pop(im: &Image<'_>, map: &mut [u32], stack: &[u32], count: usize, run: Execution) -> Handed
+    requires { Stack stack.now count × (all_words im.now.tables.words.now (entries stack.now count) ≡ true) }
+    ensures { AnsweredBy (popped im.now.tables.words.now im.now.«data».now (standing (entries stack.now count) map.old run)) (Ok result) map.new }
 {
-    let n = highest(im, map, stack, count);
+    let n = highest(&im.tables, map, stack, count);
     if n == 0 {
         return ended(0, run);
     }
