@@ -114,7 +114,7 @@ fn walk_in<const WORDS: usize>(f: SoundFile, map: &mut [u32]) -> Walked
     let thirteen = h.thirteen;
     let upto = h.upto;
     walk::walk(
-        f.im.words,
+        f.im.tables.words,
         f.im.data,
         f.starts,
         two,
@@ -140,15 +140,20 @@ fn show<R: Print + Eprint + Env + Files>(
     o: Options,
 ) -> io::Result<()> {
     match w.answer {
-        Err(WalkError::BrokenImage) => refusals::broken_image(rt, f.im.words, f.im.data.len()),
-        Err(WalkError::NotCode) => refusals::bad_start(rt, &f.im, f.starts),
-        Err(WalkError::Misaligned) => refusals::bad_start(rt, &f.im, f.starts),
+        Err(WalkError::BrokenImage) => refusals::broken_image(
+            rt,
+            f.im.tables.words,
+            f.im.data.len(),
+        ),
+        Err(WalkError::NotCode) => refusals::bad_start(rt, &f.im.tables, f.starts),
+        Err(WalkError::Misaligned) => refusals::bad_start(rt, &f.im.tables, f.starts),
         Err(WalkError::MapTooSmall) => refusals::small_map(rt),
         Ok(()) => show_all(rt, f, map, w, o, "ok"),
         Err(WalkError::StackFull) => show_all(rt, f, map, w, o, "answer 5"),
     }
 }
 
+#[tactic(auto, using(image::proofs::SoundTables::laid))]
 fn show_all<R: Print + Eprint + Env + Files>(
     rt: &R,
     f: SoundFile,
@@ -157,8 +162,15 @@ fn show_all<R: Print + Eprint + Env + Files>(
     o: Options,
     last: &str,
 ) -> io::Result<()> {
-    counts::show(rt, &f.im, f.starts.len() as u64, map, w, o.lines)?;
-    sections::show(rt, &f.im, map, o.lines)?;
+    counts::show(
+        rt,
+        f.im.tables.words,
+        f.starts.len() as u64,
+        map,
+        w,
+        o.lines,
+    )?;
+    sections::show(rt, &f.im.tables, map, o.lines)?;
     if let Some(arg) = o.report {
         if !save::report(rt, &f.im, map, arg) {
             return println!(rt; "report not written");

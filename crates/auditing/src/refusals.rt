@@ -1,7 +1,7 @@
 // What is said where there is no walk, or where it was refused: the number, and in words what it means and where that is.
 use crate::which;
 use faults::Rule;
-use image::Image;
+use image::Tables;
 use image_file::{Fault, Wrong};
 use lookups::PlaceError;
 use places::SectionAddress;
@@ -72,7 +72,7 @@ fn rule_text(r: Option<Rule>) -> &'static str {
 }
 
 // Answers 2 and 3: the first start that is no aligned code word.
-pub(crate) fn bad_start(rt: &impl Print, im: &Image<'_>, starts: &[u64]) -> io::Result<()> {
+pub(crate) fn bad_start(rt: &impl Print, im: &Tables<'_>, starts: &[u64]) -> io::Result<()> {
     for (i, key) in starts.iter().enumerate() {
         let p = place_of(*key);
         match lookups::code_place(im, p) {

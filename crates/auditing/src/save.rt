@@ -17,7 +17,7 @@ pub(crate) fn report<R: Eprint + Env + Files>(
     arg: usize,
 ) -> bool {
     let mut bytes: [u8; rooms::REPORT] = rooms::filled(0);
-    match report::write_report(im.words, im.data, map, &mut bytes) {
+    match report::write_report(im.tables.words, im.data, map, &mut bytes) {
         Ok(n) if n <= bytes.len() => save(rt, &bytes[..n], arg),
         _ => false,
     }

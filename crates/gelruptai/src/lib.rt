@@ -36,7 +36,7 @@ pub fn gelruptai_code_words(im: &[u32], data: &[u8]) -> usize
 {
     match Image::new(im, data) {
         Err(_) => 0,
-        Ok(im) => image::code::code_words(im.words),
+        Ok(im) => image::code::code_words(im.tables.words),
     }
 }
 

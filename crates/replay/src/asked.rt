@@ -1,7 +1,7 @@
 // Lookups in the current image: docs/FORMATS.md, kind 6.
 use exchange::case::{Case, Words};
 use exchange::line::{Line, first_four};
-use image::Image;
+use image::{Image, Tables};
 use lookups::{PlaceError, Relocation, Wanted};
 use places::SectionAddress;
 
@@ -19,16 +19,16 @@ pub(crate) fn lookup(case: Case, line: &mut Line) {
 fn in_tables(im: &Image<'_>, asked: Words, line: &mut Line) {
     let mut p = asked;
     match p.word() {
-        1 => found(lookups::at_address(im, p.word()), line),
-        2 => found(image::elf::elf_index(im.words, p.word()), line),
+        1 => found(lookups::at_address(&im.tables, p.word()), line),
+        2 => found(image::elf::elf_index(im.tables.words, p.word()), line),
         3 => relocation(
-            lookups::relocation_target_for(im, p.place(), wanted(p.word())),
+            lookups::relocation_target_for(&im.tables, p.place(), wanted(p.word())),
             line,
         ),
-        4 => line.maybe_target(lookups::section_address_for(im, p.place(), p.word())),
-        5 => line.word(lookups::known_size(im, p.place())),
+        4 => line.maybe_target(lookups::section_address_for(&im.tables, p.place(), p.word())),
+        5 => line.word(lookups::known_size(&im.tables, p.place())),
         6 => sums(lookups::data_from(im, p.place()), line),
-        7 => visited_bit(im, p.place(), line),
+        7 => visited_bit(&im.tables, p.place(), line),
         _ => word_there(lookups::read_u32(im, p.place()), line),
     }
 }
@@ -88,7 +88,7 @@ fn sums(bytes: &[u8], line: &mut Line) {
 }
 
 #[tactic(auto, using(image::proofs::SoundTables::laid))]
-fn visited_bit(im: &Image<'_>, place: SectionAddress, line: &mut Line) {
+fn visited_bit(im: &Tables<'_>, place: SectionAddress, line: &mut Line) {
     line.count(image::code::code_words(im.words));
     match lookups::code_place(im, place) {
         Err(PlaceError::NotCode) => line.many(&[2, 0]),

@@ -1,23 +1,25 @@
 // What is counted of an image and of its walk.
 ghost use Rattle.std.specs.Prelude.{◌≡◌};
+ghost use Rattle.image.specs.Laid.{Laid};
 ghost use Rattle.shown.specs.Counted.{tenths_of};
 
-use image::Image;
 use std::io;
 use turns::Walked;
 
 pub fn show(
     rt: &impl Print,
-    im: &Image<'_>,
+    im: &[u32],
     starts: u64,
     map: &[u32],
     w: Walked,
     lines: bool,
-) -> io::Result<()> {
-    show_kind(rt, im.words[0], lines)?;
+) -> io::Result<()>
+    requires { Laid im.now }
+{
+    show_kind(rt, im[0], lines)?;
     show_tables(rt, im, lines)?;
     count(rt, lines, "starts", "starts", starts)?;
-    let words = image::code::code_words(im.words);
+    let words = image::code::code_words(im);
     let seen = visited::count(map, words);
     count(rt, lines, "code words", "code_words", words as u64)?;
     show_visited(rt, seen as u64, words as u64, lines)?;
@@ -43,12 +45,14 @@ fn show_kind(rt: &impl Print, kind: u32, lines: bool) -> io::Result<()> {
 }
 
 // The module number, and how many records each table of the image has.
-fn show_tables(rt: &impl Print, im: &Image<'_>, lines: bool) -> io::Result<()> {
-    count(rt, lines, "module", "module", im.words[1] as u64)?;
-    count(rt, lines, "sections", "sections", im.words[2] as u64)?;
-    count(rt, lines, "bound", "bound", im.words[3] as u64)?;
-    count(rt, lines, "unbound", "unbound", im.words[4] as u64)?;
-    count(rt, lines, "object symbols", "symbols", im.words[5] as u64)
+fn show_tables(rt: &impl Print, im: &[u32], lines: bool) -> io::Result<()>
+    requires { Laid im.now }
+{
+    count(rt, lines, "module", "module", im[1] as u64)?;
+    count(rt, lines, "sections", "sections", im[2] as u64)?;
+    count(rt, lines, "bound", "bound", im[3] as u64)?;
+    count(rt, lines, "unbound", "unbound", im[4] as u64)?;
+    count(rt, lines, "object symbols", "symbols", im[5] as u64)
 }
 
 // The visited words and, for a person, what part that is.

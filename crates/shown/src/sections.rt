@@ -2,7 +2,7 @@
 use crate::runs::CodeWords;
 use image::code::words_of;
 use image::table::{section, section_count};
-use image::{Image, Section};
+use image::{Section, Tables};
 use std::io;
 use words::sum::wrapping_add;
 
@@ -15,7 +15,7 @@ struct Part {
 }
 
 // Every section in order.
-pub fn show(rt: &impl Print, im: &Image<'_>, map: &[u32], lines: bool) -> io::Result<()> {
+pub fn show(rt: &impl Print, im: &Tables<'_>, map: &[u32], lines: bool) -> io::Result<()> {
     let n = section_count(im.words);
     let mut base: usize = 0;
     for i in 0..n {

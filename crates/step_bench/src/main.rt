@@ -3,12 +3,12 @@
 #![tactic(auto)]
 
 use cells::STATE_WORDS;
-use image::Image;
+use image::Tables;
 use places::SectionAddress;
 use std::io;
 use streams::{read_full, room};
 
-fn repeat(im: &Image<'_>, code: &[u8], turns: u32) -> u32 {
+fn repeat(im: &Tables<'_>, code: &[u8], turns: u32) -> u32 {
     let start = SectionAddress {
         section: 0,
         address: 4096,
@@ -27,9 +27,11 @@ fn repeat(im: &Image<'_>, code: &[u8], turns: u32) -> u32 {
 fn measure(rt: &impl Print, code: &[u8], turns: u32) -> io::Result<()> {
     let size = (code.len() % 65536) as u32;
     let im = [0, 0, 1, 0, 0, 0, 4096, size, 0, 0, 0, size];
-    match Image::new(&im, code) {
-        Ok(im) => println!(rt; "{}", repeat(&im, code, turns)),
-        Err(_) => println!(rt; "no image"),
+    if image::judge::tables_sound(&im) {
+        let stopped = repeat(&Tables { words: &im }, code, turns);
+        println!(rt; "{stopped}")
+    } else {
+        rt.write_all(b"no image\n")
     }
 }
 

@@ -10,25 +10,25 @@ few : (im : List ℕ) → tables_sound im ≡ true → (i base n : ℕ) → i < 
 few im sound i base n below before own = omega (arith, before, own, words_inside im sound i below)
 
 pub section_count-n-requires : goal.section_count-n-requires
-section_count-n-requires g c = head_inside c.args.im.now.words.now c.args.im.now.tables
+section_count-n-requires g c = head_inside c.args.im.now.words.now c.args.im.now.sound
 
 pub loop-i-init : goal.loop-i-init
 loop-i-init g c = (omega arith, sym (words_none c.args.im.now.words.now))
 
 pub section-s-requires : goal.section-s-requires
-section-s-requires g c = section_inside c.args.im.now.words.now c.args.im.now.tables c.loop-i.i (omega (arith, c.section_count-n.ensures))
+section-s-requires g c = section_inside c.args.im.now.words.now c.args.im.now.sound c.loop-i.i (omega (arith, c.section_count-n.ensures))
 
 pub overflow_cast-words : goal.overflow_cast-words
 overflow_cast-words g c =
     let l = c.loop-i in
     let words = c.words_of-count.ensures.0 ∙ ap words_of c.section-s.ensures in
-    omega (arith, few c.args.im.now.words.now c.args.im.now.tables l.i l.base _ (omega (arith, c.section_count-n.ensures)) l.invariant.1 words)
+    omega (arith, few c.args.im.now.words.now c.args.im.now.sound l.i l.base _ (omega (arith, c.section_count-n.ensures)) l.invariant.1 words)
 
 pub overflow_add-base : goal.overflow_add-base
 overflow_add-base g c =
     let l = c.loop-i in
     let words = c.words_of-count.ensures.0 ∙ ap words_of c.section-s.ensures in
-    omega (arith, few c.args.im.now.words.now c.args.im.now.tables l.i l.base _ (omega (arith, c.section_count-n.ensures)) l.invariant.1 words)
+    omega (arith, few c.args.im.now.words.now c.args.im.now.sound l.i l.base _ (omega (arith, c.section_count-n.ensures)) l.invariant.1 words)
 
 pub loop-i-preserved : goal.loop-i-preserved
 loop-i-preserved g c =
@@ -40,5 +40,5 @@ pub invariant_of-words : goal.invariant_of-words
 invariant_of-words g c =
     let l = c.loop-i in
     let words = c.words_of-count.ensures.0 ∙ ap words_of c.section-s.ensures in
-    let most = few c.args.im.now.words.now c.args.im.now.tables l.i l.base _ (omega (arith, c.section_count-n.ensures)) l.invariant.1 words in
+    let most = few c.args.im.now.words.now c.args.im.now.sound l.i l.base _ (omega (arith, c.section_count-n.ensures)) l.invariant.1 words in
     record { numbered = omega (arith, most); addressed = omega (arith, most) }
