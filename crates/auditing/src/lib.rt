@@ -153,7 +153,6 @@ fn show<R: Print + Eprint + Env + Files>(
     }
 }
 
-#[tactic(auto, using(image::proofs::SoundTables::laid))]
 fn show_all<R: Print + Eprint + Env + Files>(
     rt: &R,
     f: SoundFile,
