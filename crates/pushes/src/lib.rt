@@ -165,54 +165,29 @@ pub fn take(
     requires stack { Stack stack.old count × (length entries.old ≡ table_room) }
     ensures { TakenWays im.now.words.now im.now.«data».now from upto stack.old count entries.old at l (state_of cells.now) stack.new entries.new result }
 {
-    match l {
-        Leave::Ended | Leave::Illegal => nothing(count),
-        Leave::Jump(t) => take_jump(im, from, upto, stack, count, entries, at, t, cells),
+    let (target, stays, goes) = match l {
+        Leave::Ended | Leave::Illegal => {
+            return nothing(count);
+        }
+        Leave::Jump(t) => {
+            return take_jump(im, from, upto, stack, count, entries, at, t, cells);
+        }
         // Back from the call, then into it.
-        Leave::Call(t) => take_two(
-            im,
-            from,
-            upto,
-            stack,
-            count,
-            entries,
-            at,
-            t,
-            cells,
-            Made::Return,
-            Made::Link,
-        ),
+        Leave::Call(t) => (t, Made::Return, Made::Link),
         // Each with what it knows of the compared registers.
         Leave::Fork {
             target,
             crf,
             stays,
             goes,
-        } => take_two(
-            im,
-            from,
-            upto,
-            stack,
-            count,
-            entries,
-            at,
+        } => (
             target,
-            cells,
             Made::Result { value: stays, crf },
             Made::Result { value: goes, crf },
         ),
-        Leave::Both(t) => take_two(
-            im,
-            from,
-            upto,
-            stack,
-            count,
-            entries,
-            at,
-            t,
-            cells,
-            Made::Same,
-            Made::Same,
-        ),
-    }
+        Leave::Both(t) => (t, Made::Same, Made::Same),
+    };
+    take_two(
+        im, from, upto, stack, count, entries, at, target, cells, stays, goes,
+    )
 }
