@@ -15,7 +15,7 @@ returns c =
     let a = c.args in
     let s = state_of a.cells.now in
     elim c.match-l.branch [
-      | in-Call w ↦ rw w.in-Call.is ((rw w.target-is at c.take_two.ensures) _ (leaving_call a.at s w.in-Call.t))
-      | in-Fork w ↦ rw w.in-Fork.is ((rw w.target-is at c.take_two.ensures) _ (leaving_fork a.at s w.in-Fork.target w.in-Fork.crf w.in-Fork.stays w.in-Fork.goes))
-      | in-Both w ↦ rw w.in-Both.is ((rw w.target-is at c.take_two.ensures) _ (leaving_both a.at s w.in-Both.t))
+      | in-Call w ↦ rw w.in-Call.is ((rw w.target-is at c.take_two.ensures) _ (leaving_call a.at s _))
+      | in-Fork w ↦ rw w.in-Fork.is ((rw w.target-is at c.take_two.ensures) _ (leaving_fork a.at s _ _ _ _))
+      | in-Both w ↦ rw w.in-Both.is ((rw w.target-is at c.take_two.ensures) _ (leaving_both a.at s _))
     ]
