@@ -10,7 +10,7 @@ ghost use Rattle.cells.specs.Cells.{state_of, Cells};
 ghost use Rattle.clones.specs.Clones.{made_of};
 ghost use Rattle.stack.specs.Stack.{Stack};
 ghost use Rattle.turns.specs.Moves.{table_room};
-ghost use Rattle.pushes.specs.Takes.{none, PushedAt, TakenTarget, TakenWays};
+ghost use Rattle.pushes.specs.Takes.{none, PushedAt, TakenTarget, TakenTwo, TakenWays};
 
 use clones::Made;
 use image::{Image, Tables};
@@ -18,7 +18,7 @@ use places::{RelocationTarget, SectionAddress};
 use step::Leave;
 use tables::take_table;
 use targets::{is_way, is_word, stays_in};
-use vm::{BranchTarget, GprValue};
+use vm::BranchTarget;
 
 // What pushing leaves: how many states wait, whether a push was refused (5), tables read and not read. A flag and no Result:
 // the states and the counts stand where a push was refused too.
@@ -121,8 +121,8 @@ fn take_jump(
     nothing(count)
 }
 
-// A linked branch: the next word, back from the call, then the target, into it.
-fn take_call(
+// A branch with two ways: the next word with what the first makes of the state, then the target with what the second makes of it.
+fn take_two(
     im: &Image<'_>,
     from: SectionAddress,
     upto: Option<SectionAddress>,
@@ -132,10 +132,12 @@ fn take_call(
     at: SectionAddress,
     t: BranchTarget,
     cells: &[u32],
+    stays: Made,
+    goes: Made,
 ) -> Taken
     requires cells { Cells cells.now (state_of cells.now) }
     requires stack { Stack stack.old count × (length entries.old ≡ table_room) }
-    ensures { TakenWays im.now.tables.words.now im.now.«data».now from upto stack.old count entries.old at (Leave.Call t) (state_of cells.now) stack.new entries.new result }
+    ensures { TakenTwo im.now.tables.words.now im.now.«data».now from upto stack.old count entries.old at t (made_of stays (state_of cells.now)) (made_of goes (state_of cells.now)) (state_of cells.now) stack.new entries.new result }
 {
     let first = push_at(
         &im.tables,
@@ -143,112 +145,13 @@ fn take_call(
         count,
         places::offset(at, 4),
         cells,
-        Made::Return,
+        stays,
     );
     if first.full {
         return first;
     }
     if is_way(&im.tables, t) {
-        return take_target(
-            im,
-            from,
-            upto,
-            stack,
-            first.held,
-            entries,
-            t,
-            cells,
-            Made::Link,
-        );
-    }
-    first
-}
-
-// A conditional branch: the next word, then the target, each with what it knows of the compared registers.
-fn take_fork(
-    im: &Image<'_>,
-    from: SectionAddress,
-    upto: Option<SectionAddress>,
-    stack: &mut [u32],
-    count: usize,
-    entries: &mut [u64],
-    at: SectionAddress,
-    t: BranchTarget,
-    crf: u8,
-    stays: GprValue,
-    goes: GprValue,
-    cells: &[u32],
-) -> Taken
-    requires cells { Cells cells.now (state_of cells.now) }
-    requires stack { Stack stack.old count × (length entries.old ≡ table_room) }
-    ensures { TakenWays im.now.tables.words.now im.now.«data».now from upto stack.old count entries.old at (Leave.Fork t crf stays goes) (state_of cells.now) stack.new entries.new result }
-{
-    let first = push_at(
-        &im.tables,
-        stack,
-        count,
-        places::offset(at, 4),
-        cells,
-        Made::Result { value: stays, crf },
-    );
-    if first.full {
-        return first;
-    }
-    if is_way(&im.tables, t) {
-        return take_target(
-            im,
-            from,
-            upto,
-            stack,
-            first.held,
-            entries,
-            t,
-            cells,
-            Made::Result { value: goes, crf },
-        );
-    }
-    first
-}
-
-// A conditional branch that tells nothing.
-fn take_both(
-    im: &Image<'_>,
-    from: SectionAddress,
-    upto: Option<SectionAddress>,
-    stack: &mut [u32],
-    count: usize,
-    entries: &mut [u64],
-    at: SectionAddress,
-    t: BranchTarget,
-    cells: &[u32],
-) -> Taken
-    requires cells { Cells cells.now (state_of cells.now) }
-    requires stack { Stack stack.old count × (length entries.old ≡ table_room) }
-    ensures { TakenWays im.now.tables.words.now im.now.«data».now from upto stack.old count entries.old at (Leave.Both t) (state_of cells.now) stack.new entries.new result }
-{
-    let first = push_at(
-        &im.tables,
-        stack,
-        count,
-        places::offset(at, 4),
-        cells,
-        Made::Same,
-    );
-    if first.full {
-        return first;
-    }
-    if is_way(&im.tables, t) {
-        return take_target(
-            im,
-            from,
-            upto,
-            stack,
-            first.held,
-            entries,
-            t,
-            cells,
-            Made::Same,
-        );
+        return take_target(im, from, upto, stack, first.held, entries, t, cells, goes);
     }
     first
 }
@@ -269,18 +172,29 @@ pub fn take(
     requires stack { Stack stack.old count × (length entries.old ≡ table_room) }
     ensures { TakenWays im.now.tables.words.now im.now.«data».now from upto stack.old count entries.old at l (state_of cells.now) stack.new entries.new result }
 {
-    match l {
-        Leave::Ended | Leave::Illegal => nothing(count),
-        Leave::Jump(t) => take_jump(im, from, upto, stack, count, entries, at, t, cells),
-        Leave::Call(t) => take_call(im, from, upto, stack, count, entries, at, t, cells),
+    let (target, stays, goes) = match l {
+        Leave::Ended | Leave::Illegal => {
+            return nothing(count);
+        }
+        Leave::Jump(t) => {
+            return take_jump(im, from, upto, stack, count, entries, at, t, cells);
+        }
+        // Back from the call, then into it.
+        Leave::Call(t) => (t, Made::Return, Made::Link),
+        // Each with what it knows of the compared registers.
         Leave::Fork {
             target,
             crf,
             stays,
             goes,
-        } => take_fork(
-            im, from, upto, stack, count, entries, at, target, crf, stays, goes, cells,
+        } => (
+            target,
+            Made::Result { value: stays, crf },
+            Made::Result { value: goes, crf },
         ),
-        Leave::Both(t) => take_both(im, from, upto, stack, count, entries, at, t, cells),
-    }
+        Leave::Both(t) => (t, Made::Same, Made::Same),
+    };
+    take_two(
+        im, from, upto, stack, count, entries, at, target, cells, stays, goes,
+    )
 }

@@ -1,6 +1,6 @@
 // A straight run over a state that stays in its cells: words until one ends the run, or the bytes do.
 // The cells hold a state.
-#![tactic(auto)]
+#![tactic(auto, using(cells::proofs::CellLaws::cells_long))]
 
 pub mod carry;
 pub mod word;

@@ -1,6 +1,6 @@
 -- One arm for each effect.
 use mathlib.Core.Path.{refl}
-use Rattle.cells.proofs.CellLaws.{cells_state, cells_long}
+use Rattle.cells.proofs.CellLaws.{cells_state}
 use Rattle.runs.proofs.Carrying.{cells_as, cells_own}
 use Rattle.step.specs.Runs.{leave_by}
 use Rattle.step.specs.Step.{done_of}
@@ -10,12 +10,6 @@ use Rattle.runs.proofs.carry.carry.Goals as goal
 
 pub set_compare-requires : goal.set_compare-requires
 set_compare-requires c = (cells_own c.set_register-in-Compare.ensures, omega (arith, c.crfd.ensures))
-
-pub lr_in-requires : goal.lr_in-requires
-lr_in-requires c = omega (arith, cells_long c.requires)
-
-pub ctr_in-requires : goal.ctr_in-requires
-ctr_in-requires c = omega (arith, cells_long c.requires)
 
 pub forget-requires : goal.forget-requires
 forget-requires c = (cells_own c.set_register-in-Load.ensures, omega (arith, c.rd-d.ensures))

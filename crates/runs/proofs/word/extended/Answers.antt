@@ -2,7 +2,6 @@
 use mathlib.Core.Path.{refl, sym, ap, ◌∙◌}
 use mathlib.Core.Bool.{true, false}
 use Rattle.cells.specs.Cells.{state_of}
-use Rattle.cells.proofs.CellLaws.{cells_long}
 use Rattle.runs.proofs.Carrying.{cells_as, went_by, compare_went}
 use Rattle.step.specs.Runs.{leave_by}
 use Rattle.step.specs.Arms.{effect_by}
@@ -11,38 +10,7 @@ use Rattle.runs.specs.Went.{went_of}
 use Rattle.decoder.specs.declared.Decoded.{Decoded}
 use Rattle.decoder.specs.declared.Op.TheVariants.{Or, Add, Cmp, Cmpl, Lwzx, Subf, Other}
 use Rattle.runs.proofs.Told.{effect_by_lem}
-use native.Mathlib.Omega.{arith}
 use Rattle.runs.proofs.word.extended.Goals as goal
-
-pub register_in-requires : goal.register_in-requires
-register_in-requires c = (omega (arith, cells_long c.requires), omega (arith, c.rd.ensures))
-
-pub register_in-requires-in-Or : goal.register_in-requires-in-Or
-register_in-requires-in-Or c = (omega (arith, cells_long c.requires), omega (arith, c.rb.ensures))
-
-pub register_in-g-requires : goal.register_in-g-requires
-register_in-g-requires c = (omega (arith, cells_long c.requires), omega (arith, c.ra-in-Add.ensures))
-
-pub register_in-h-requires : goal.register_in-h-requires
-register_in-h-requires c = (omega (arith, cells_long c.requires), omega (arith, c.rb-in-Add.ensures))
-
-pub register_in-g-requires-in-Cmp : goal.register_in-g-requires-in-Cmp
-register_in-g-requires-in-Cmp c = (omega (arith, cells_long c.requires), omega (arith, c.rb-in-Cmp.ensures))
-
-pub register_in-g-requires-in-Cmpl : goal.register_in-g-requires-in-Cmpl
-register_in-g-requires-in-Cmpl c = (omega (arith, cells_long c.requires), omega (arith, c.rb-in-Cmpl.ensures))
-
-pub register_in-g-requires-in-Lwzx : goal.register_in-g-requires-in-Lwzx
-register_in-g-requires-in-Lwzx c = (omega (arith, cells_long c.requires), omega (arith, c.ra-in-Lwzx.ensures))
-
-pub register_in-h-requires-in-Lwzx : goal.register_in-h-requires-in-Lwzx
-register_in-h-requires-in-Lwzx c = (omega (arith, cells_long c.requires), omega (arith, c.rb-in-Lwzx.ensures))
-
-pub register_in-g-requires-in-Subf : goal.register_in-g-requires-in-Subf
-register_in-g-requires-in-Subf c = (omega (arith, cells_long c.requires), omega (arith, c.ra-in-Subf.ensures))
-
-pub register_in-h-requires-in-Subf : goal.register_in-h-requires-in-Subf
-register_in-h-requires-in-Subf c = (omega (arith, cells_long c.requires), omega (arith, c.rb-in-Subf.ensures))
 
 pub returns-in-Or : goal.returns-in-Or
 unfolding effect_by leave_by went_of done_of

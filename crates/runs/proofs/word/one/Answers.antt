@@ -3,7 +3,6 @@ use Rattle.step.proofs.Masks.{masked}
 use mathlib.Core.Path.{refl, sym, ap, ◌∙◌}
 use mathlib.Core.Bool.{true, false}
 use Rattle.cells.specs.Cells.{state_of}
-use Rattle.cells.proofs.CellLaws.{cells_long}
 use Rattle.runs.proofs.Carrying.{cells_as, same_reg, went_by, compare_went}
 use Rattle.step.specs.Runs.{leave_by}
 use Rattle.step.specs.Arms.{rd_of, ra_of, access_of, effect_by}
@@ -14,20 +13,7 @@ use Rattle.vm.specs.Registers.{blank, with_reg}
 use Rattle.decoder.specs.Table.{rows, first}
 use Rattle.decoder.specs.declared.Op.TheVariants.{Cmpli, Cmpi, Addi, Addis, Bc, B, Rlwinm, Ori, Lwz, Lbz, Stw, Stb, Lhz, Sth}
 use Rattle.runs.proofs.Told.{by_primary, effect_by_lem}
-use native.Mathlib.Omega.{arith}
 use Rattle.runs.proofs.word.one.Goals as goal
-
-pub register_in-requires : goal.register_in-requires
-register_in-requires c = (omega (arith, cells_long c.requires), omega (arith, c.ra-a.ensures))
-
-pub register_in-g-requires : goal.register_in-g-requires
-register_in-g-requires c = (omega (arith, cells_long c.requires), omega (arith, c.ra.ensures))
-
-pub register_in-g-requires-in-21 : goal.register_in-g-requires-in-21
-register_in-g-requires-in-21 c = (omega (arith, cells_long c.requires), omega (arith, c.rd-in-21.ensures))
-
-pub register_in-requires-in-24 : goal.register_in-requires-in-24
-register_in-requires-in-24 c = (omega (arith, cells_long c.requires), omega (arith, c.rd-in-24.ensures))
 
 pub returns-in-10 : goal.returns-in-10
 unfolding rows first access_of effect_by leave_by went_of done_of
