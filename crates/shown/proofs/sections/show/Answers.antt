@@ -3,20 +3,14 @@ use Rattle.std.proofs.Common.{ℕ, List, true, ◌≡◌, ◌+◌, ◌<◌, ◌�
 use Rattle.image.proofs.CodeWords.{words_none, words_more}
 use Rattle.image.specs.Layout.{sections, section_at}
 use Rattle.image.specs.Rules.{words_of, words_before, tables_sound}
-use Rattle.shown.proofs.Tables.{head_inside, section_inside, words_inside}
+use Rattle.shown.proofs.Tables.{words_inside}
 use Rattle.shown.proofs.sections.show.Goals as goal
 
 few : (im : List ℕ) → tables_sound im ≡ true → (i base n : ℕ) → i < sections im → base ≡ words_before im i → n ≡ words_of (section_at im i) → base + n ≤ 262144
 few im sound i base n below before own = omega (arith, before, own, words_inside im sound i below)
 
-pub section_count-n-requires : goal.section_count-n-requires
-section_count-n-requires g c = head_inside c.args.im.now.words.now c.args.im.now.sound
-
 pub loop-i-init : goal.loop-i-init
 loop-i-init g c = (omega arith, sym (words_none c.args.im.now.words.now))
-
-pub section-s-requires : goal.section-s-requires
-section-s-requires g c = section_inside c.args.im.now.words.now c.args.im.now.sound c.loop-i.i (omega (arith, c.section_count-n.ensures))
 
 pub overflow_cast-words : goal.overflow_cast-words
 overflow_cast-words g c =
