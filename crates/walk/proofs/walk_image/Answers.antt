@@ -25,6 +25,18 @@ returns-then-held-eq0 c =
     let a = c.args in
     walk_empty c.begin.ensures a.from a.upto a.entries.now c.in-Ok.is c.loop-full.invariant.0 c.if-held-eq0.true c.if-full.false
 
+pub top_place-p-requires : goal.top_place-p-requires
+top_place-p-requires c =
+    let a = c.args in
+    let l = c.loop-full in
+    (walk_held c.begin.ensures a.from a.upto a.entries.now c.in-Ok.is l.invariant.0, omega (arith, c.if-held-eq0.false))
+
+pub word_number-requires : goal.word_number-requires
+word_number-requires c =
+    let a = c.args in
+    let l = c.loop-full in
+    (fine_place a.im.now.words.now c.top_place-p.result (rw c.top_place-p.ensures (walk_top c.begin.ensures a.from a.upto a.entries.now c.in-Ok.is l.invariant.0 (omega (arith, c.if-held-eq0.false))))).0
+
 pub loop-full-preserved-then-contains : goal.loop-full-preserved-then-contains
 loop-full-preserved-then-contains c =
     let a = c.args in
@@ -35,6 +47,27 @@ loop-full-preserved-then-contains c =
       l.invariant.2,
       l.invariant.3,
     )
+
+pub top_cells-requires : goal.top_cells-requires
+top_cells-requires c =
+    let a = c.args in
+    let l = c.loop-full in
+    (walk_held c.begin.ensures a.from a.upto a.entries.now c.in-Ok.is l.invariant.0, omega (arith, c.if-held-eq0.false), l.invariant.3)
+
+pub run_block-e-requires : goal.run_block-e-requires
+run_block-e-requires c =
+    let a = c.args in
+    let l = c.loop-full in
+    (walk_map c.begin.ensures a.from a.upto a.entries.now c.in-Ok.is l.invariant.0, rw c.top_place-p.ensures (walk_top c.begin.ensures a.from a.upto a.entries.now c.in-Ok.is l.invariant.0 (omega (arith, c.if-held-eq0.false))), cells_own c.top_cells.ensures)
+
+pub follow-t-requires : goal.follow-t-requires
+follow-t-requires c =
+    let a = c.args in
+    let l = c.loop-full in
+    record {
+      state = c.run_block-e.ensures.0;
+      stack = (walk_below c.begin.ensures a.from a.upto a.entries.now c.in-Ok.is l.invariant.0 (omega (arith, c.if-held-eq0.false)) c.if-full.false, search rules);
+    }
 
 pub overflow_add-stepped : goal.overflow_add-stepped
 overflow_add-stepped c =

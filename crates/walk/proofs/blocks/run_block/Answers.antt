@@ -6,6 +6,9 @@ use Rattle.runs.proofs.Carrying.{cells_own}
 use Rattle.walk.proofs.BlockLaws.{image_sound, halted, block_begins, block_few, run_ahead, block_past, block_leaves, block_stays, block_falls, block_jumps}
 use Rattle.walk.proofs.blocks.run_block.Goals as goal
 
+pub loop-l-init : goal.loop-l-init
+loop-l-init c = let a = c.args in (block_begins a.im.now.words.now a.im.now.«data».now a.from (state_of a.cells.now) a.map.now c.requires.1, c.requires.2)
+
 pub overflow_sub-many : goal.overflow_sub-many
 overflow_sub-many c = run_ahead (image_sound _ _ c.args.im.now.tables c.args.im.now.inside) c.requires.0 c.loop-l.invariant.0 (rw c.data_from-code.ensures.result_value at ((halted c.run-r.ensures)))
 

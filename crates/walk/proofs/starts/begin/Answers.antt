@@ -7,6 +7,9 @@ use Rattle.stack.proofs.ValidLaws.{empty_stack}
 use Rattle.walk.proofs.StartLaws.{begins_done}
 use Rattle.walk.proofs.starts.begin.Goals as goal
 
+pub push_keys-t-requires : goal.push_keys-t-requires
+push_keys-t-requires c = (empty_stack _, omega arith, cells_own c.put_state.ensures)
+
 pub returns : goal.returns
 returns c =
     let a = c.args in
