@@ -9,7 +9,7 @@ use lib.ListN.{length}
 use Rattle.std.specs.Prelude.{Some, None, Result, Ok, Err, Option}
 use Rattle.places.specs.declared.SectionAddress.{SectionAddress}
 use Rattle.image.specs.Numbers.{max_code_words}
-use Rattle.image.specs.Rules.{code_words, sound}
+use Rattle.image.specs.Rules.{code_words}
 use Rattle.lookups.specs.Code.{code_place, word_number}
 use Rattle.vm.specs.States.{bases_of}
 use Rattle.step.specs.declared.Leave.{Leave}
@@ -17,7 +17,6 @@ use Rattle.stack.specs.Stack.{Stack, entries, held_at, room}
 use Rattle.stack.proofs.Stacks.{pop_entries, pop_stack}
 use Rattle.visited.specs.Bits.{visited_at}
 use Rattle.turns.specs.declared.WalkError.{WalkError}
-use Rattle.turns.specs.declared.WalkError.TheVariants as error
 use Rattle.turns.specs.Grounds.{idle, conf}
 use Rattle.turns.specs.Moves.{Lent, is_fine, ground_of}
 use Rattle.turns.specs.Walks.{Given, given, ground_in, judged, refused_with, walked}
@@ -33,7 +32,6 @@ use Rattle.pushes.specs.declared.Taken.{Taken}
 use Rattle.pushes.specs.Takes.{TakenWays}
 use Rattle.walk.specs.declared.Begun.{Begun}
 use Rattle.walk.specs.Starts.{places_of, Begins}
-use Rattle.walk.proofs.StartLaws.{judged_1}
 use Rattle.walk.specs.Blocks.{Last, past, jumps_out, jumps_old, leaves_by, Block, Ending, Followed, stays, goes}
 
 some_not_none : {A : Type 0} (l : Leave) → Some l ≡ None → A
@@ -119,11 +117,6 @@ module _ (i : Given) (vis : List ℕ) (lent : Lent) (fine : judged i vis ≡ Ok 
           let unread : d + 0 ≡ d = omega arith in
           rw (e, f, g, read, unread) (turn_idle o)
       turn_follows (goes l o taken) = turn_takes l o taken
-
--- a broken image is refused, and everything stays as it was
-pub walk_broken : (i : Given) (vis : List ℕ) (lent : Lent) → sound i.tables (length i.bytes) ≡ false → walked i vis lent ≡ refused_with error.BrokenImage vis lent
-unfolding walked
-walk_broken i vis lent b = rw (judged_1 i vis b)
 
 -- what the loop keeps: from where it began, whatever the walk's starts were
 abbrev pub Kept : List ℕ → List ℕ → SectionAddress → Option SectionAddress → List ℕ → ℕ → List ℕ → Bool → List ℕ

@@ -2,28 +2,28 @@
 -- Assumes of the last law that nothing is refused.
 use Prim.Native.Nat.{ℕ, ◌+◌, ◌≤◌, ◌<◌}
 use mathlib.Core.Path.{◌≡◌, refl, sym, ap, subst}
-use mathlib.Core.Bool.{Bool, true, false}
+use mathlib.Core.Bool.{Bool}
 use mathlib.Core.List.{List, [], ◌++◌, append-nil}
 use native.Mathlib.Numerals.{add-one}
 use lib.ListN.{length, get_or, take, drop, drop_of_length-le}
 use lib.Seq.{drop-cons, take-length}
 use Rattle.std.specs.Prelude.{⊤, Result, Ok, Err, Option}
 use Rattle.places.specs.declared.SectionAddress.{SectionAddress}
-use Rattle.image.specs.Rules.{code_words, sound}
+use Rattle.image.specs.Rules.{code_words}
 use Rattle.lookups.specs.Code.{code_place}
 use native.Mathlib.Omega.{arith}
 use Rattle.vm.specs.declared.VM.{VM}
 use Rattle.vm.specs.States.{bases_of}
 use Rattle.stack.specs.Stack.{Entry, room}
 use Rattle.stack.proofs.Stacks.{no_entries}
-use Rattle.visited.specs.Bits.{has_room, cleared}
+use Rattle.visited.specs.Bits.{cleared}
 use Rattle.jump_tables.specs.Tables.{Outcome}
 use Rattle.turns.specs.declared.WalkError.{WalkError}
 use Rattle.turns.specs.declared.WalkError.TheVariants as error
 use Rattle.turns.specs.Grounds.{idle, Pile, conf}
 use Rattle.turns.specs.Turns.{push_each, Reach, here}
 use Rattle.turns.specs.Moves.{Asked, Lent, place_of, ground_of}
-use Rattle.turns.specs.Walks.{Given, given, start_in, starts_judged, judged_by, judged}
+use Rattle.turns.specs.Walks.{given, start_in, starts_judged, judged_by, judged}
 use Rattle.turns.specs.Heads.{Piles, Head}
 use Rattle.walk.specs.Starts.{places_of, Begins}
 use Rattle.lookups.specs.declared.PlaceError.TheVariants as place
@@ -41,16 +41,6 @@ judges_next ws starts j l p e = rw (← e, add-one j, drop-cons starts j 0 l)
 pub judges_none : (ws starts : List ℕ) (j : ℕ) → length starts ≤ j → judged_from ws starts j ≡ Ok tt
 unfolding starts_judged
 judges_none ws starts j l = rw (drop_of_length-le starts l)
-
--- the refusals before the starts
-pub judged_1 : (i : Given) (vis : List ℕ) → sound i.tables (length i.bytes) ≡ false → judged i vis ≡ Err error.BrokenImage
-unfolding judged
-judged_1 i vis e = rw e
-
-pub judged_4 : (i : Given) (vis : List ℕ) → sound i.tables (length i.bytes) ≡ true → has_room vis (code_words i.tables) ≡ false
-    → judged i vis ≡ Err error.MapTooSmall
-unfolding judged
-judged_4 i vis e r = rw (e, r)
 
 -- what one start's judgement tells of all
 error_not_ok : {A : Type 0} (e : WalkError) → ◌≡◌ {A = Result ⊤ WalkError} (Err e) (Ok tt) → A

@@ -49,6 +49,7 @@ pub struct Ended {
 // visited, and the answer is Done with an empty stack, or StackFull (5) where a push found all slots held: then the bits, the waiting
 // states and the counts are as reached. `two` and `thirteen` are what r2 and r13 hold, `from` and `upto` the bounds of the function
 // for tables of guessed size. The stack's words may be anything before; the entry buffer is scratch for tables.
+#[tactic(auto, unfolding(turns::specs::Walks::walked, turns::specs::Walks::judged))]
 pub fn walk(
     im: &[u32],
     data: &[u8],

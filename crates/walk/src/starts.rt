@@ -38,7 +38,7 @@ fn judge_starts(im: &Tables<'_>, starts: &[u64]) -> Result<(), WalkError>
 }
 
 // MapTooSmall (4), then the starts.
-#[tactic(auto, using(image::proofs::SoundTables::laid))]
+#[tactic(auto, using(image::proofs::SoundTables::laid), unfolding(turns::specs::Walks::judged))]
 fn judge(im: &Image<'_>, starts: &[u64], map: &[u32]) -> Result<(), WalkError>
     ensures { (two thirteen : Option ℕ) (from : SectionAddress) (upto : Option SectionAddress) → result ≡ judged (given im.now.tables.words.now im.now.«data».now (places_of starts.now) two thirteen from upto) map.now }
 {
