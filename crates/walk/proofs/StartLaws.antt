@@ -8,6 +8,7 @@ use native.Mathlib.Numerals.{add-one}
 use lib.ListN.{length, get_or, take, drop, drop_of_length-le}
 use lib.Seq.{drop-cons, take-length}
 use Rattle.std.specs.Prelude.{⊤, Result, Ok, Err, Option}
+use Rattle.std.specs.Result.{IsErrAnd}
 use Rattle.places.specs.declared.SectionAddress.{SectionAddress}
 use Rattle.image.specs.Rules.{code_words}
 use Rattle.lookups.specs.Code.{code_place}
@@ -42,19 +43,12 @@ pub judges_none : (ws starts : List ℕ) (j : ℕ) → length starts ≤ j → j
 unfolding starts_judged
 judges_none ws starts j l = rw (drop_of_length-le starts l)
 
--- what one start's judgement tells of all
-error_not_ok : {A : Type 0} (e : WalkError) → ◌≡◌ {A = Result ⊤ WalkError} (Err e) (Ok tt) → A
-error_not_ok e q = let z : ◌≡◌ {A = ℕ} 0 1 = cc in absurd (omega arith)
-
-pub start_refuses : (p : Result ⊤ PlaceError) (z : Result ⊤ WalkError) (e : WalkError) → judged_by p (Ok tt) ≡ Err e → judged_by p z ≡ Err e
-start_refuses (Err place.NotCode) z e h = h
-start_refuses (Err place.Misaligned) z e h = h
-start_refuses (Ok tt) z e h = error_not_ok e (sym h)
-
-pub start_passes : (p : Result ⊤ PlaceError) (z : Result ⊤ WalkError) → judged_by p (Ok tt) ≡ Ok tt → judged_by p z ≡ z
-start_passes (Err place.NotCode) z h = error_not_ok error.NotCode h
-start_passes (Err place.Misaligned) z h = error_not_ok error.Misaligned h
-start_passes (Ok tt) z h = refl
+-- a bad start's refusal is that of all from it on
+pub start_refuses : (e : PlaceError) (z r : Result ⊤ WalkError) → IsErrAnd r (λ x. judged_by (Err e) (Ok tt) ≡ Err x) → r ≡ judged_by (Err e) z
+start_refuses place.NotCode z (Err x) h = sym h
+start_refuses place.Misaligned z (Err x) h = sym h
+start_refuses place.NotCode z (Ok u) h = absurd h
+start_refuses place.Misaligned z (Ok u) h = absurd h
 
 -- the map cleared and the starts pushed: the loop over blocks begins
 module _ (ws bs starts : List ℕ) (two thirteen : Option ℕ) (vis words : List ℕ) where

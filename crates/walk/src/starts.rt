@@ -1,8 +1,7 @@
 // What comes before the first block: judging, and the starts pushed.
 ghost use Rattle.std.specs.Prelude.{ℕ, ◌≡◌, Ok, Option};
 ghost use Rattle.places.specs.declared.SectionAddress.{SectionAddress};
-ghost use Rattle.lookups.specs.Code.{code_place};
-ghost use Rattle.turns.specs.Walks.{given, starts_judged, judged_by, judged};
+ghost use Rattle.turns.specs.Walks.{given, starts_judged, judged};
 ghost use Rattle.walk.specs.Starts.{places_of, Begins};
 
 use crate::Begun;
@@ -10,29 +9,18 @@ use cells::STATE_WORDS;
 use clones::Made;
 use image::code::code_words;
 use image::{Image, Tables};
-use lookups::{PlaceError, code_place};
+use lookups::code_place;
 use places::SectionAddress;
 use pushes::tables::{place_of, push_keys};
 use turns::WalkError;
 use vm::state::new_with_base;
 
-// A start that is no code is NotCode (2), one that is not aligned Misaligned (3).
-fn judge_start(im: &Tables<'_>, p: SectionAddress) -> Result<(), WalkError>
-    ensures { result ≡ judged_by (code_place im.now.words.now p) (Ok tt) }
-{
-    match code_place(im, p) {
-        Err(PlaceError::NotCode) => Err(WalkError::NotCode),
-        Err(PlaceError::Misaligned) => Err(WalkError::Misaligned),
-        Ok(()) => Ok(()),
-    }
-}
-
-// The starts in turn, the first bad one deciding.
+// The starts in turn, the first bad one deciding: NotCode (2) or Misaligned (3).
 fn judge_starts(im: &Tables<'_>, starts: &[u64]) -> Result<(), WalkError>
     ensures { result ≡ starts_judged im.now.words.now (places_of starts.now) }
 {
     for start in starts {
-        judge_start(im, place_of(*start))?;
+        code_place(im, place_of(*start))?;
     }
     Ok(())
 }
