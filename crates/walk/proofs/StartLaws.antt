@@ -1,7 +1,7 @@
 -- Judging and starting: the starts one by one, an answer that is no refusal, and the first `Head`.
 -- Assumes of the last law that nothing is refused.
 use Prim.Native.Nat.{ℕ, ◌+◌, ◌≤◌, ◌<◌}
-use mathlib.Core.Path.{◌≡◌, refl, sym, ap, subst}
+use mathlib.Core.Path.{◌≡◌, sym, ap, subst}
 use mathlib.Core.Bool.{Bool}
 use mathlib.Core.List.{List, [], ◌++◌, append-nil}
 use native.Mathlib.Numerals.{add-one}
@@ -12,7 +12,6 @@ use Rattle.std.specs.Result.{IsErrAnd}
 use Rattle.places.specs.declared.SectionAddress.{SectionAddress}
 use Rattle.image.specs.Rules.{code_words}
 use Rattle.lookups.specs.Code.{code_place}
-use native.Mathlib.Omega.{arith}
 use Rattle.vm.specs.declared.VM.{VM}
 use Rattle.vm.specs.States.{bases_of}
 use Rattle.stack.specs.Stack.{Entry, room}
@@ -20,7 +19,6 @@ use Rattle.stack.proofs.Stacks.{no_entries}
 use Rattle.visited.specs.Bits.{cleared}
 use Rattle.jump_tables.specs.Tables.{Outcome}
 use Rattle.turns.specs.declared.WalkError.{WalkError}
-use Rattle.turns.specs.declared.WalkError.TheVariants as error
 use Rattle.turns.specs.Grounds.{idle, Pile, conf}
 use Rattle.turns.specs.Turns.{push_each, Reach, here}
 use Rattle.turns.specs.Moves.{Asked, Lent, place_of, ground_of}

@@ -1,10 +1,7 @@
 -- The starts from a number on are judged as all of them are.
-use Prim.Native.Nat.{◌+◌}
-use borrow.Author.Rules.{rules}
-use Rattle.std.specs.Prelude.{Err}
-use mathlib.Core.Path.{◌≡◌, refl, sym, ◌∙◌}
+use mathlib.Core.Path.{sym, ◌∙◌}
 use native.Mathlib.Omega.{arith}
-use Rattle.walk.proofs.StartLaws.{judged_from, judges_next, judges_none, start_refuses}
+use Rattle.walk.proofs.StartLaws.{judges_next, judges_none, start_refuses}
 use Rattle.walk.proofs.starts.judge_starts.Goals as goal
 
 pub returns-in_err-code_place : goal.returns-in_err-code_place
