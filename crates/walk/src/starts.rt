@@ -1,5 +1,5 @@
 // What comes before the first block: judging, and the starts pushed.
-ghost use Rattle.std.specs.Prelude.{ℕ, ◌≡◌, Ok, Option};
+ghost use Rattle.std.specs.Prelude.{ℕ, ◌≡◌, Option};
 ghost use Rattle.places.specs.declared.SectionAddress.{SectionAddress};
 ghost use Rattle.turns.specs.Walks.{given, starts_judged, judged};
 ghost use Rattle.walk.specs.Starts.{places_of, Begins};
