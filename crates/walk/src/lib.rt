@@ -19,7 +19,7 @@ use image::Image;
 use lookups::word_number;
 use places::SectionAddress;
 use pushes::{Taken, take};
-use starts::begin;
+use starts::begin_image;
 use step::Leave;
 use turns::{WalkError, Walked};
 
@@ -98,7 +98,7 @@ fn walk_image(
 ) -> Walked
     ensures { walked (given im.now.tables.words.now im.now.«data».now (places_of starts.now) two thirteen from upto) map.old (record { stack = stack.old; entries = entries.old }) ≡ record { result = result; vis = map.new; lent = record { stack = stack.new; entries = entries.new } } }
 {
-    let b = match begin(im, starts, two, thirteen, map, stack) {
+    let b = match begin_image(im, starts, two, thirteen, map, stack) {
         Ok(b) => b,
         Err(e) => {
             return refused(e);

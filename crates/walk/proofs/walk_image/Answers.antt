@@ -13,29 +13,29 @@ use Rattle.walk.proofs.HeadSteps.{turn_old, turn_follows, walk_refused, walk_hel
 use Rattle.walk.proofs.walk_image.Goals as goal
 
 pub returns-in-Err : goal.returns-in-Err
-returns-in-Err c = let a = c.args in rw c.refused.ensures (walk_refused c.begin.ensures a.from a.upto a.entries.now c.in-Err.is)
+returns-in-Err c = let a = c.args in rw c.refused.ensures (walk_refused c.begin_image.ensures a.from a.upto a.entries.now c.in-Err.is)
 
 pub returns-then-full : goal.returns-then-full
 returns-then-full c =
     let a = c.args in
-    walk_full c.begin.ensures a.from a.upto a.entries.now c.in-Ok.is c.loop-full.invariant.0 c.if-full.true
+    walk_full c.begin_image.ensures a.from a.upto a.entries.now c.in-Ok.is c.loop-full.invariant.0 c.if-full.true
 
 pub returns-then-held-eq0 : goal.returns-then-held-eq0
 returns-then-held-eq0 c =
     let a = c.args in
-    walk_empty c.begin.ensures a.from a.upto a.entries.now c.in-Ok.is c.loop-full.invariant.0 c.if-held-eq0.true c.if-full.false
+    walk_empty c.begin_image.ensures a.from a.upto a.entries.now c.in-Ok.is c.loop-full.invariant.0 c.if-held-eq0.true c.if-full.false
 
 pub top_place-p-requires : goal.top_place-p-requires
 top_place-p-requires c =
     let a = c.args in
     let l = c.loop-full in
-    (walk_held c.begin.ensures a.from a.upto a.entries.now c.in-Ok.is l.invariant.0, omega (arith, c.if-held-eq0.false))
+    (walk_held c.begin_image.ensures a.from a.upto a.entries.now c.in-Ok.is l.invariant.0, omega (arith, c.if-held-eq0.false))
 
 pub word_number-requires : goal.word_number-requires
 word_number-requires c =
     let a = c.args in
     let l = c.loop-full in
-    (fine_place a.im.now.tables.words.now c.top_place-p.result (rw c.top_place-p.ensures (walk_top c.begin.ensures a.from a.upto a.entries.now c.in-Ok.is l.invariant.0 (omega (arith, c.if-held-eq0.false))))).0
+    (fine_place a.im.now.tables.words.now c.top_place-p.result (rw c.top_place-p.ensures (walk_top c.begin_image.ensures a.from a.upto a.entries.now c.in-Ok.is l.invariant.0 (omega (arith, c.if-held-eq0.false))))).0
 
 pub loop-full-preserved-then-contains : goal.loop-full-preserved-then-contains
 loop-full-preserved-then-contains c =
@@ -52,13 +52,13 @@ pub top_cells-requires : goal.top_cells-requires
 top_cells-requires c =
     let a = c.args in
     let l = c.loop-full in
-    (walk_held c.begin.ensures a.from a.upto a.entries.now c.in-Ok.is l.invariant.0, omega (arith, c.if-held-eq0.false), l.invariant.3)
+    (walk_held c.begin_image.ensures a.from a.upto a.entries.now c.in-Ok.is l.invariant.0, omega (arith, c.if-held-eq0.false), l.invariant.3)
 
 pub run_block-e-requires : goal.run_block-e-requires
 run_block-e-requires c =
     let a = c.args in
     let l = c.loop-full in
-    (walk_map c.begin.ensures a.from a.upto a.entries.now c.in-Ok.is l.invariant.0, rw c.top_place-p.ensures (walk_top c.begin.ensures a.from a.upto a.entries.now c.in-Ok.is l.invariant.0 (omega (arith, c.if-held-eq0.false))), cells_own c.top_cells.ensures)
+    (walk_map c.begin_image.ensures a.from a.upto a.entries.now c.in-Ok.is l.invariant.0, rw c.top_place-p.ensures (walk_top c.begin_image.ensures a.from a.upto a.entries.now c.in-Ok.is l.invariant.0 (omega (arith, c.if-held-eq0.false))), cells_own c.top_cells.ensures)
 
 pub follow-t-requires : goal.follow-t-requires
 follow-t-requires c =
@@ -66,44 +66,44 @@ follow-t-requires c =
     let l = c.loop-full in
     record {
       state = c.run_block-e.ensures.0;
-      stack = (walk_below c.begin.ensures a.from a.upto a.entries.now c.in-Ok.is l.invariant.0 (omega (arith, c.if-held-eq0.false)) c.if-full.false, search rules);
+      stack = (walk_below c.begin_image.ensures a.from a.upto a.entries.now c.in-Ok.is l.invariant.0 (omega (arith, c.if-held-eq0.false)) c.if-full.false, search rules);
     }
 
 pub overflow_add-stepped : goal.overflow_add-stepped
 overflow_add-stepped c =
     let a = c.args in
     let l = c.loop-full in
-    record { fits = omega (arith, (walk_follows c.begin.ensures a.from a.upto a.entries.now c.in-Ok.is l.invariant.0 (omega (arith, c.if-held-eq0.false)) c.if-full.false (rw (c.word_number.ensures, c.top_place-p.ensures) at (sym c.contains.ensures ∙ c.if-contains.false)) (rw (c.top_place-p.ensures, cells_state c.top_cells.ensures) at c.run_block-e.ensures.1) c.follow-t.ensures).0.0) }
+    record { fits = omega (arith, (walk_follows c.begin_image.ensures a.from a.upto a.entries.now c.in-Ok.is l.invariant.0 (omega (arith, c.if-held-eq0.false)) c.if-full.false (rw (c.word_number.ensures, c.top_place-p.ensures) at (sym c.contains.ensures ∙ c.if-contains.false)) (rw (c.top_place-p.ensures, cells_state c.top_cells.ensures) at c.run_block-e.ensures.1) c.follow-t.ensures).0.0) }
 
 pub overflow_add-begun : goal.overflow_add-begun
 overflow_add-begun c =
     let a = c.args in
     let l = c.loop-full in
-    record { fits = omega (arith, (walk_follows c.begin.ensures a.from a.upto a.entries.now c.in-Ok.is l.invariant.0 (omega (arith, c.if-held-eq0.false)) c.if-full.false (rw (c.word_number.ensures, c.top_place-p.ensures) at (sym c.contains.ensures ∙ c.if-contains.false)) (rw (c.top_place-p.ensures, cells_state c.top_cells.ensures) at c.run_block-e.ensures.1) c.follow-t.ensures).0.1) }
+    record { fits = omega (arith, (walk_follows c.begin_image.ensures a.from a.upto a.entries.now c.in-Ok.is l.invariant.0 (omega (arith, c.if-held-eq0.false)) c.if-full.false (rw (c.word_number.ensures, c.top_place-p.ensures) at (sym c.contains.ensures ∙ c.if-contains.false)) (rw (c.top_place-p.ensures, cells_state c.top_cells.ensures) at c.run_block-e.ensures.1) c.follow-t.ensures).0.1) }
 
 pub overflow_add-begun-in-loop-full : goal.overflow_add-begun-in-loop-full
 overflow_add-begun-in-loop-full c =
     let a = c.args in
     let l = c.loop-full in
-    record { fits = omega (arith, (walk_follows c.begin.ensures a.from a.upto a.entries.now c.in-Ok.is l.invariant.0 (omega (arith, c.if-held-eq0.false)) c.if-full.false (rw (c.word_number.ensures, c.top_place-p.ensures) at (sym c.contains.ensures ∙ c.if-contains.false)) (rw (c.top_place-p.ensures, cells_state c.top_cells.ensures) at c.run_block-e.ensures.1) c.follow-t.ensures).0.1) }
+    record { fits = omega (arith, (walk_follows c.begin_image.ensures a.from a.upto a.entries.now c.in-Ok.is l.invariant.0 (omega (arith, c.if-held-eq0.false)) c.if-full.false (rw (c.word_number.ensures, c.top_place-p.ensures) at (sym c.contains.ensures ∙ c.if-contains.false)) (rw (c.top_place-p.ensures, cells_state c.top_cells.ensures) at c.run_block-e.ensures.1) c.follow-t.ensures).0.1) }
 
 pub overflow_add-read : goal.overflow_add-read
 overflow_add-read c =
     let a = c.args in
     let l = c.loop-full in
-    record { fits = omega (arith, (walk_follows c.begin.ensures a.from a.upto a.entries.now c.in-Ok.is l.invariant.0 (omega (arith, c.if-held-eq0.false)) c.if-full.false (rw (c.word_number.ensures, c.top_place-p.ensures) at (sym c.contains.ensures ∙ c.if-contains.false)) (rw (c.top_place-p.ensures, cells_state c.top_cells.ensures) at c.run_block-e.ensures.1) c.follow-t.ensures).0.2) }
+    record { fits = omega (arith, (walk_follows c.begin_image.ensures a.from a.upto a.entries.now c.in-Ok.is l.invariant.0 (omega (arith, c.if-held-eq0.false)) c.if-full.false (rw (c.word_number.ensures, c.top_place-p.ensures) at (sym c.contains.ensures ∙ c.if-contains.false)) (rw (c.top_place-p.ensures, cells_state c.top_cells.ensures) at c.run_block-e.ensures.1) c.follow-t.ensures).0.2) }
 
 pub overflow_add-not_read : goal.overflow_add-not_read
 overflow_add-not_read c =
     let a = c.args in
     let l = c.loop-full in
-    record { fits = omega (arith, (walk_follows c.begin.ensures a.from a.upto a.entries.now c.in-Ok.is l.invariant.0 (omega (arith, c.if-held-eq0.false)) c.if-full.false (rw (c.word_number.ensures, c.top_place-p.ensures) at (sym c.contains.ensures ∙ c.if-contains.false)) (rw (c.top_place-p.ensures, cells_state c.top_cells.ensures) at c.run_block-e.ensures.1) c.follow-t.ensures).0.2) }
+    record { fits = omega (arith, (walk_follows c.begin_image.ensures a.from a.upto a.entries.now c.in-Ok.is l.invariant.0 (omega (arith, c.if-held-eq0.false)) c.if-full.false (rw (c.word_number.ensures, c.top_place-p.ensures) at (sym c.contains.ensures ∙ c.if-contains.false)) (rw (c.top_place-p.ensures, cells_state c.top_cells.ensures) at c.run_block-e.ensures.1) c.follow-t.ensures).0.2) }
 
 pub loop-full-smaller : goal.loop-full-smaller
 loop-full-smaller c =
     let a = c.args in
     let l = c.loop-full in
-    (walk_follows c.begin.ensures a.from a.upto a.entries.now c.in-Ok.is l.invariant.0 (omega (arith, c.if-held-eq0.false)) c.if-full.false (rw (c.word_number.ensures, c.top_place-p.ensures) at (sym c.contains.ensures ∙ c.if-contains.false)) (rw (c.top_place-p.ensures, cells_state c.top_cells.ensures) at c.run_block-e.ensures.1) c.follow-t.ensures).1
+    (walk_follows c.begin_image.ensures a.from a.upto a.entries.now c.in-Ok.is l.invariant.0 (omega (arith, c.if-held-eq0.false)) c.if-full.false (rw (c.word_number.ensures, c.top_place-p.ensures) at (sym c.contains.ensures ∙ c.if-contains.false)) (rw (c.top_place-p.ensures, cells_state c.top_cells.ensures) at c.run_block-e.ensures.1) c.follow-t.ensures).1
 
 pub loop-full-preserved : goal.loop-full-preserved
 loop-full-preserved c =

@@ -5,7 +5,7 @@ use Rattle.cells.proofs.CellLaws.{cells_state}
 use Rattle.runs.proofs.Carrying.{cells_own}
 use Rattle.stack.proofs.ValidLaws.{empty_stack}
 use Rattle.walk.proofs.StartLaws.{begins_done}
-use Rattle.walk.proofs.starts.begin.Goals as goal
+use Rattle.walk.proofs.starts.begin_image.Goals as goal
 
 pub push_keys-t-requires : goal.push_keys-t-requires
 push_keys-t-requires c = (empty_stack _, omega arith, cells_own c.put_state.ensures)
