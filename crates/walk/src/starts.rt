@@ -36,25 +36,6 @@ fn judge(im: &Image<'_>, starts: &[u64], map: &[u32]) -> Result<(), WalkError>
     Err(WalkError::MapTooSmall)
 }
 
-// The same for any words and data: BrokenImage (1), then as `begin_image`. `walk` makes its image first, and keeps it.
-#[tactic(auto, unfolding(turns::specs::Walks::judged))]
-pub fn begin(
-    im: &[u32],
-    data: &[u8],
-    starts: &[u64],
-    two: Option<u32>,
-    thirteen: Option<u32>,
-    map: &mut [u32],
-    stack: &mut [u32],
-) -> Result<Begun, WalkError>
-    ensures { Begins im.now «data».now starts.now two thirteen map.old stack.old result map.new stack.new }
-{
-    match Image::new(im, data) {
-        Ok(im) => begin_image(&im, starts, two, thirteen, map, stack),
-        Err(_) => Err(WalkError::BrokenImage),
-    }
-}
-
 // The judgement; where nothing is refused the W bits are cleared and the starts pushed, each with a fresh state.
 #[tactic(auto, using(image::proofs::SoundTables::laid))]
 pub(crate) fn begin_image(
@@ -84,4 +65,23 @@ pub(crate) fn begin_image(
         held: t.held,
         full: t.full,
     })
+}
+
+// The same for any words and data: BrokenImage (1) comes first. `walk` makes its image itself, and keeps it.
+#[tactic(auto, unfolding(turns::specs::Walks::judged))]
+pub fn begin(
+    im: &[u32],
+    data: &[u8],
+    starts: &[u64],
+    two: Option<u32>,
+    thirteen: Option<u32>,
+    map: &mut [u32],
+    stack: &mut [u32],
+) -> Result<Begun, WalkError>
+    ensures { Begins im.now «data».now starts.now two thirteen map.old stack.old result map.new stack.new }
+{
+    match Image::new(im, data) {
+        Ok(im) => begin_image(&im, starts, two, thirteen, map, stack),
+        Err(_) => Err(WalkError::BrokenImage),
+    }
 }
