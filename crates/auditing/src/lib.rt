@@ -2,10 +2,9 @@
 // The work is in the crates below; what is read and written here is tested, not proved.
 #![tactic(auto)]
 
-ghost use Rattle.std.specs.Prelude.{◌≡◌, ◌^◌, ◌<◌, true, length};
-ghost use Rattle.image.specs.Rules.{sound};
+ghost use Rattle.std.specs.Prelude.{◌^◌, ◌<◌};
 
-use image::BrokenImage;
+use image::Image;
 use image_file::Head;
 use std::io;
 use std::io::Read;
@@ -23,14 +22,12 @@ mod which;
 use options::Options;
 use shown::{counts, sections};
 
-// A sound image with its data, the starts, and what the file's head says besides.
+// An image that breaks no rule, the starts, and what the file's head says besides.
 #[derive(Clone, Copy)]
 struct SoundFile<'a> {
-    im: &'a [u32],
-    data: &'a [u8],
+    im: Image<'a>,
     starts: &'a [u64],
     head: Head,
-    ghost is_sound: { sound im.now (length «data».now) ≡ true },
 }
 
 // The whole audit, in a buffer that the file must fit in. The last line written says how it ended.
@@ -83,17 +80,9 @@ fn judge<R: Print + Eprint + Env + Files>(
     }
     let im = &im[..words];
     let starts = &starts[..count];
-    match image::check_image(im, data) {
+    match Image::new(im, data) {
         Err(_) => refusals::broken_image(rt, im, data.len()),
-        Ok(()) => {
-            let file = SoundFile {
-                im,
-                data,
-                starts,
-                head,
-            };
-            walk_file(rt, file, o)
-        }
+        Ok(im) => walk_file(rt, SoundFile { im, starts, head }, o),
     }
 }
 
@@ -125,8 +114,8 @@ fn walk_in<const WORDS: usize>(f: SoundFile, map: &mut [u32]) -> Walked
     let thirteen = h.thirteen;
     let upto = h.upto;
     walk::walk(
-        f.im,
-        f.data,
+        f.im.tables.words,
+        f.im.data,
         f.starts,
         two,
         thirteen,
@@ -151,9 +140,13 @@ fn show<R: Print + Eprint + Env + Files>(
     o: Options,
 ) -> io::Result<()> {
     match w.answer {
-        Err(WalkError::BrokenImage) => refusals::broken_image(rt, f.im, f.data.len()),
-        Err(WalkError::NotCode) => refusals::bad_start(rt, f.im, f.starts),
-        Err(WalkError::Misaligned) => refusals::bad_start(rt, f.im, f.starts),
+        Err(WalkError::BrokenImage) => refusals::broken_image(
+            rt,
+            f.im.tables.words,
+            f.im.data.len(),
+        ),
+        Err(WalkError::NotCode) => refusals::bad_start(rt, &f.im.tables, f.starts),
+        Err(WalkError::Misaligned) => refusals::bad_start(rt, &f.im.tables, f.starts),
         Err(WalkError::MapTooSmall) => refusals::small_map(rt),
         Ok(()) => show_all(rt, f, map, w, o, "ok"),
         Err(WalkError::StackFull) => show_all(rt, f, map, w, o, "answer 5"),
@@ -168,10 +161,17 @@ fn show_all<R: Print + Eprint + Env + Files>(
     o: Options,
     last: &str,
 ) -> io::Result<()> {
-    counts::show(rt, f.im, f.starts.len() as u64, map, w, o.lines)?;
-    sections::show(rt, f.im, map, o.lines)?;
+    counts::show(
+        rt,
+        f.im.tables.words,
+        f.starts.len() as u64,
+        map,
+        w,
+        o.lines,
+    )?;
+    sections::show(rt, &f.im.tables, map, o.lines)?;
     if let Some(arg) = o.report {
-        if !save::report(rt, f.im, f.data, map, arg) {
+        if !save::report(rt, &f.im, map, arg) {
             return println!(rt; "report not written");
         }
     }

@@ -1,9 +1,7 @@
 // What is said where there is no walk, or where it was refused: the number, and in words what it means and where that is.
-ghost use Rattle.std.specs.Prelude.{◌≡◌, true};
-ghost use Rattle.image.specs.Rules.{tables_sound};
-
 use crate::which;
 use faults::Rule;
+use image::Tables;
 use image_file::{Fault, Wrong};
 use lookups::PlaceError;
 use places::SectionAddress;
@@ -74,9 +72,7 @@ fn rule_text(r: Option<Rule>) -> &'static str {
 }
 
 // Answers 2 and 3: the first start that is no aligned code word.
-pub(crate) fn bad_start(rt: &impl Print, im: &[u32], starts: &[u64]) -> io::Result<()>
-    requires { tables_sound im.now ≡ true }
-{
+pub(crate) fn bad_start(rt: &impl Print, im: &Tables<'_>, starts: &[u64]) -> io::Result<()> {
     for (i, key) in starts.iter().enumerate() {
         let p = place_of(*key);
         match lookups::code_place(im, p) {

@@ -3,6 +3,7 @@ ghost use Rattle.std.specs.Prelude.{◌≤◌};
 
 use crate::options::argument;
 use crate::rooms;
+use image::Image;
 use std::fs::File;
 use std::io;
 use std::io::Write;
@@ -11,13 +12,12 @@ use std::rt::{Env, Files};
 // The report of a map, written to the file that an argument names. False where there is no report or the file cannot be written.
 pub(crate) fn report<R: Eprint + Env + Files>(
     rt: &R,
-    im: &[u32],
-    data: &[u8],
+    im: &Image<'_>,
     map: &[u32],
     arg: usize,
 ) -> bool {
     let mut bytes: [u8; rooms::REPORT] = rooms::filled(0);
-    match report::write_report(im, data, map, &mut bytes) {
+    match report::write_report(im.tables.words, im.data, map, &mut bytes) {
         Ok(n) if n <= bytes.len() => save(rt, &bytes[..n], arg),
         _ => false,
     }

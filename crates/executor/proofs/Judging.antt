@@ -45,7 +45,22 @@ pub lawful_says : (im : List ℕ) (d : ℕ) (words : List ℕ) (n : ℕ) (ph : P
     → (sound im d ≡ true) × (lawful im words n ph p ≡ true)
 lawful_says im d words n ph p e = both_passed (sound im d) (lawful im words n ph p) e
 
--- a lawful call: what the code below the judge asks
+-- a lawful call: a stack whose states wait at words, and what is under way stands where it may
+pub record Lawful (im words : List ℕ) (n : ℕ) (ph : Phase) (p : SectionAddress) : Type 0 where
+  pub held : Stack words n
+  pub at_words : all_words im (entries words n) ≡ true
+  pub placed : is_placed im ph p ≡ true
+
+pub lawful_holds : (im words : List ℕ) (n : ℕ) (ph : Phase) (p : SectionAddress) → lawful im words n ph p ≡ true → Lawful im words n ph p
+lawful_holds im words n ph p e =
+    let first_two = and_left (valid_stack words n && all_words im (entries words n)) (is_placed im ph p) e in
+    record {
+      held = valid_stack_lem words n (and_left (valid_stack words n) (all_words im (entries words n)) first_two);
+      at_words = and_right (valid_stack words n) (all_words im (entries words n)) first_two;
+      placed = and_right (valid_stack words n && all_words im (entries words n)) (is_placed im ph p) e;
+    }
+
+-- a call that the judge lets pass: what the code below asks
 pub record Judged (im : List ℕ) (d : ℕ) (words : List ℕ) (n : ℕ) (ph : Phase) (p : SectionAddress) : Type 0 where
   pub image : sound im d ≡ true
   pub tables : tables_sound im ≡ true
@@ -59,15 +74,15 @@ pub judged : (im : List ℕ) (d : ℕ) (words : List ℕ) (n : ℕ) (ph : Phase)
 judged im d words n ph p e =
     let both = lawful_says im d words n ph p e in
     let tables = tables_of_sound im d both.0 in
-    let first_two = and_left (valid_stack words n && all_words im (entries words n)) (is_placed im ph p) both.1 in
+    let rest = lawful_holds im words n ph p both.1 in
     record {
       image = both.0;
       tables = tables;
       inside = data_of_sound im d both.0;
       there = laid im tables;
-      held = valid_stack_lem words n (and_left (valid_stack words n) (all_words im (entries words n)) first_two);
-      at_words = and_right (valid_stack words n) (all_words im (entries words n)) first_two;
-      placed = and_right (valid_stack words n && all_words im (entries words n)) (is_placed im ph p) both.1;
+      held = rest.held;
+      at_words = rest.at_words;
+      placed = rest.placed;
     }
 
 -- and back

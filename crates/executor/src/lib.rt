@@ -1,20 +1,24 @@
 // Branched execution, one instruction at a time: executor.rs with its callback turned into two calls, `next` and
 // `reply`. The caller keeps the stack's words and count, the visited map and the execution, and hands them to each
 // call: any will do. They stay parameters of their own, as a call lends some to read and some to write.
-#![tactic(auto)]
+#![tactic(auto, using(image::proofs::SoundTables::laid, image::proofs::SoundTables::sound_tables))]
 
 pub mod following;
 pub mod judge;
 pub mod stepping;
 
-ghost use Rattle.std.specs.Prelude.{◌≡◌, length};
+ghost use Rattle.std.specs.Prelude.{◌≡◌, length, Err};
 ghost use Rattle.executor.specs.Standing.{at_rest, refusal_number};
+ghost use Rattle.executor.specs.Judge.{place_answer};
+ghost use Rattle.executor.specs.declared.Refusal.TheVariants as refusal;
 ghost use Rattle.executor.specs.Next.{next_call, AnsweredBy};
 ghost use Rattle.executor.specs.Reply.{reply_call};
 ghost use Rattle.executor.specs.Push.{PushesTo};
 ghost use Rattle.executor.specs.Visits.{visit_call};
 
-use judge::{judge, require_image, require_room, require_word};
+use image::{BrokenImage, Image};
+use judge::{judge, require_room};
+use lookups::PlaceError;
 use places::SectionAddress;
 use step::Stepped;
 use vm::VM;
@@ -67,6 +71,25 @@ pub enum Refusal {
     StackFull,
 }
 
+impl From<BrokenImage> for Refusal {
+    ghost from_gives = { λ _ why. why ≡ refusal.BrokenImage };
+
+    fn from(_: BrokenImage) -> Refusal {
+        Refusal::BrokenImage
+    }
+}
+
+impl From<PlaceError> for Refusal {
+    ghost from_gives = { λ e why. Err why ≡ place_answer (Err e) };
+
+    fn from(e: PlaceError) -> Refusal {
+        match e {
+            PlaceError::NotCode => Refusal::NotCode,
+            PlaceError::Misaligned => Refusal::Misaligned,
+        }
+    }
+}
+
 // Document 01's numbers.
 impl From<Refusal> for u32 {
     ghost from_gives = { λ why n. n ≡ refusal_number why };
@@ -116,8 +139,8 @@ pub fn push(
 ) -> Result<usize, Refusal>
     ensures { PushesTo im.now (length «data».now) stack.old count p s sorted result stack.new }
 {
-    judge(im, data, stack, count, Phase::Idle, p)?;
-    require_word(im, p)?;
+    let im = &judge(im, data, stack, count, Phase::Idle, p)?;
+    lookups::code_place(&im.tables, p)?;
     stack::push_state(stack, count, p, s, sorted).ok_or(Refusal::StackFull)
 }
 
@@ -134,12 +157,12 @@ pub fn next(
 ) -> Result<Handed, Refusal>
     ensures { AnsweredBy (next_call im.now «data».now stack.now count map.old run) result map.new }
 {
-    judge(im, data, stack, count, run.phase, run.at)?;
-    require_room(im, map)?;
+    let im = &judge(im, data, stack, count, run.phase, run.at)?;
+    require_room(&im.tables, map)?;
     match run.phase {
         Phase::Waiting => Err(Refusal::OutOfTurn),
-        Phase::Running => Ok(stepping::resume(im, data, map, count, run)),
-        Phase::Idle => Ok(stepping::pop(im, data, map, stack, count, run)),
+        Phase::Running => Ok(stepping::resume(im, map, count, run)),
+        Phase::Idle => Ok(stepping::pop(im, map, stack, count, run)),
     }
 }
 
@@ -157,11 +180,11 @@ pub fn reply(
 ) -> Result<Execution, Refusal>
     ensures { result ≡ reply_call im.now (length «data».now) stack.now count map.now run how }
 {
-    judge(im, data, stack, count, run.phase, run.at)?;
-    require_room(im, map)?;
+    let im = &judge(im, data, stack, count, run.phase, run.at)?;
+    require_room(&im.tables, map)?;
     match run.phase {
         Phase::Idle | Phase::Running => Err(Refusal::OutOfTurn),
-        Phase::Waiting => following::follow(im, map, run, how),
+        Phase::Waiting => following::follow(&im.tables, map, run, how),
     }
 }
 
@@ -170,8 +193,8 @@ pub fn reply(
 pub fn visited(im: &[u32], data: &[u8], map: &[u32], p: SectionAddress) -> Result<bool, Refusal>
     ensures { result ≡ visit_call im.now (length «data».now) map.now p }
 {
-    require_image(im, data)?;
-    require_room(im, map)?;
-    require_word(im, p)?;
-    Ok(visited::contains(map, lookups::word_number(im, p)))
+    let im = &Image::new(im, data)?;
+    require_room(&im.tables, map)?;
+    lookups::code_place(&im.tables, p)?;
+    Ok(visited::contains(map, lookups::word_number(&im.tables, p)))
 }

@@ -1,8 +1,7 @@
 // The next word, from a run or from the stack: marked, stepped, waiting.
-// The image is sound, and stack and running place are lawful: `judge` says so first.
-ghost use Rattle.std.specs.Prelude.{◌≡◌, true, [], length};
+// Stack and running place are lawful: `judge` says so first.
+ghost use Rattle.std.specs.Prelude.{◌≡◌, true, []};
 ghost use Rattle.words.specs.Choice.{pick};
-ghost use Rattle.image.specs.Rules.{tables_sound, data_inside};
 ghost use Rattle.stack.specs.Stack.{Stack, entries};
 ghost use Rattle.executor.specs.Judge.{is_word, all_words};
 ghost use Rattle.executor.specs.Next.{Tops, is_branch, ended_at, stepped_at, resumed, popped, handed_with, AnsweredWith, AnsweredBy};
@@ -10,6 +9,7 @@ ghost use Rattle.executor.specs.Standing.{standing, dropped};
 
 use crate::judge::is_word;
 use crate::{Execution, Handed, Phase};
+use image::{Image, Tables};
 use places::SectionAddress;
 use step::StepResult;
 use vm::VM;
@@ -49,19 +49,18 @@ fn state_after(r: StepResult, met: VM, left: VM) -> VM
 
 // The word at a place, marked and stepped.
 fn step_at(
-    im: &[u32],
-    bytes: &[u8],
+    im: &Image<'_>,
     map: &mut [u32],
     count: usize,
     at: SectionAddress,
     start: SectionAddress,
     s: VM,
 ) -> Handed
-    requires { (tables_sound im.now ≡ true) × (data_inside im.now (length bytes.now) ≡ true) × (is_word im.now at ≡ true) }
-    ensures { AnsweredWith (stepped_at im.now bytes.now [] map.old at start s) count (Ok result) map.new }
+    requires { is_word im.now.tables.words.now at ≡ true }
+    ensures { AnsweredWith (stepped_at im.now.tables.words.now im.now.«data».now [] map.old at start s) count (Ok result) map.new }
 {
-    visited::insert(map, lookups::word_number(im, at));
-    let stepped = step::done::step_word(im, at, lookups::code_word(im, bytes, at), s);
+    visited::insert(map, lookups::word_number(&im.tables, at));
+    let stepped = step::done::step_word(&im.tables, at, lookups::code_word(im, at), s);
     Handed {
         step: Some(stepped),
         run: Execution {
@@ -75,20 +74,19 @@ fn step_at(
 }
 
 // A run goes on at its word; past its section's end it is dropped, and nothing is popped.
-pub fn resume(im: &[u32], bytes: &[u8], map: &mut [u32], count: usize, run: Execution) -> Handed
-    requires { (tables_sound im.now ≡ true) × (data_inside im.now (length bytes.now) ≡ true) }
-    ensures { AnsweredWith (resumed im.now bytes.now (standing [] map.old run)) count (Ok result) map.new }
+pub fn resume(im: &Image<'_>, map: &mut [u32], count: usize, run: Execution) -> Handed
+    ensures { AnsweredWith (resumed im.now.tables.words.now im.now.«data».now (standing [] map.old run)) count (Ok result) map.new }
 {
-    if is_word(im, run.at) {
-        return step_at(im, bytes, map, count, run.at, run.block_start, run.vm);
+    if is_word(&im.tables, run.at) {
+        return step_at(im, map, count, run.at, run.block_start, run.vm);
     }
     ended(count, run)
 }
 
 // How many states are left where visited ones are taken off the top.
-fn highest(im: &[u32], map: &[u32], stack: &[u32], count: usize) -> usize
-    requires { (tables_sound im.now ≡ true) × Stack stack.now count × (all_words im.now (entries stack.now count) ≡ true) }
-    ensures { Tops im.now map.now stack.now count result }
+fn highest(im: &Tables<'_>, map: &[u32], stack: &[u32], count: usize) -> usize
+    requires { Stack stack.now count × (all_words im.now.words.now (entries stack.now count) ≡ true) }
+    ensures { Tops im.now.words.now map.now stack.now count result }
 {
     for i in (0..count).rev() {
         let p = stack::held_place(stack, count, i);
@@ -100,21 +98,14 @@ fn highest(im: &[u32], map: &[u32], stack: &[u32], count: usize) -> usize
 }
 
 // The highest unvisited state is popped and its word stepped; no such state: the stack is empty.
-pub fn pop(
-    im: &[u32],
-    bytes: &[u8],
-    map: &mut [u32],
-    stack: &[u32],
-    count: usize,
-    run: Execution,
-) -> Handed
-    requires { (tables_sound im.now ≡ true) × (data_inside im.now (length bytes.now) ≡ true) × Stack stack.now count × (all_words im.now (entries stack.now count) ≡ true) }
-    ensures { AnsweredBy (popped im.now bytes.now (standing (entries stack.now count) map.old run)) (Ok result) map.new }
+pub fn pop(im: &Image<'_>, map: &mut [u32], stack: &[u32], count: usize, run: Execution) -> Handed
+    requires { Stack stack.now count × (all_words im.now.tables.words.now (entries stack.now count) ≡ true) }
+    ensures { AnsweredBy (popped im.now.tables.words.now im.now.«data».now (standing (entries stack.now count) map.old run)) (Ok result) map.new }
 {
-    let n = highest(im, map, stack, count);
+    let n = highest(&im.tables, map, stack, count);
     if n == 0 {
         return ended(0, run);
     }
     let p = stack::top_place(stack, n);
-    step_at(im, bytes, map, n - 1, p, p, stack::top_state(stack, n))
+    step_at(im, map, n - 1, p, p, stack::top_state(stack, n))
 }

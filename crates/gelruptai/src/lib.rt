@@ -16,6 +16,7 @@ ghost use Rattle.gelruptai.specs.Handed.{walk_on, table_on, stack_words, table_c
 
 pub use given::GIVEN;
 use given::{base_in, maybe_in, place_in, words_of};
+use image::Image;
 use numbers::{read_number, rule_number, table_number, walk_number, write_number, wrong_number};
 use places::SectionAddress;
 use slot::SLOT_WORDS;
@@ -29,12 +30,13 @@ pub fn gelruptai_check_image(im: &[u32], data_length: usize) -> u32
 }
 
 // How many Code words an image has, which are the bits that a map needs; 0 for a broken image.
+#[tactic(auto, using(image::proofs::SoundTables::laid))]
 pub fn gelruptai_code_words(im: &[u32], data: &[u8]) -> usize
     ensures { result ≡ pick (sound im.now (length «data».now)) (code_words im.now) 0 }
 {
-    match image::check_image(im, data) {
+    match Image::new(im, data) {
         Err(_) => 0,
-        Ok(()) => image::code::code_words(im),
+        Ok(im) => image::code::code_words(im.tables.words),
     }
 }
 

@@ -11,8 +11,8 @@ pub mod numbers;
 pub mod sections;
 pub mod table;
 
-ghost use Rattle.std.specs.Prelude.{◌≡◌, length};
-ghost use Rattle.image.specs.Rules.{judged};
+ghost use Rattle.std.specs.Prelude.{◌≡◌, true, false, length, IfOk, OnErr};
+ghost use Rattle.image.specs.Rules.{tables_sound, data_inside, sound, judged};
 
 // One section: its address, size, kind and elf number, and the place and length of its data in the buffer. Its
 // kind is a number, no enum, and so are those below: an image's words may hold any, and rule 1 judges them.
@@ -69,5 +69,32 @@ pub fn check_image(im: &[u32], data: &[u8]) -> Result<(), BrokenImage>
         Ok(())
     } else {
         Err(BrokenImage)
+    }
+}
+
+// The words of an image whose tables break no rule.
+#[derive(Clone, Copy)]
+pub struct Tables<'a> {
+    pub words: &'a [u32],
+    pub ghost sound: { tables_sound words.now ≡ true },
+}
+
+// An image that breaks no rule: its tables, and its data.
+#[derive(Clone, Copy)]
+pub struct Image<'a> {
+    pub tables: Tables<'a>,
+    pub data: &'a [u8],
+    pub ghost inside: { data_inside tables.words.now (length «data».now) ≡ true },
+}
+
+impl<'a> Image<'a> {
+    // The image of the caller's own words and data, for any words and bytes: an error exactly where a rule is broken.
+    pub fn new(words: &'a [u32], data: &'a [u8]) -> Result<Image<'a>, BrokenImage>
+        ensures broken { OnErr result (sound words.now (length «data».now) ≡ false) }
+        ensures whole { IfOk result (λ im. (sound words.now (length «data».now) ≡ true) × (im.tables.words ≡ words.entry) × (im.«data» ≡ «data».entry)) }
+    {
+        check_image(words, data)?;
+        let tables = Tables { words };
+        Ok(Image { tables, data })
     }
 }

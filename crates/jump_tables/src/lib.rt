@@ -1,11 +1,11 @@
 // Jump tables: the entries of a table, sized or guessed, ascending and distinct in a lent buffer.
 // An entry is one number, its section's index times 2^32 plus its address.
-#![tactic(auto)]
+#![tactic(auto, using(image::proofs::SoundTables::laid, image::proofs::SoundTables::sound_tables, search::proofs::FirstMatch::first_below))]
 
 ghost use Rattle.std.specs.Prelude.{◌≡◌};
 ghost use Rattle.jump_tables.specs.Tables.{error_number, table_of};
 
-use image::check_image;
+use image::{BrokenImage, Image};
 use places::SectionAddress;
 
 pub mod keys;
@@ -60,6 +60,16 @@ impl From<TableError> for u32 {
     }
 }
 
+impl From<BrokenImage> for TableError {
+    ghost use Rattle.jump_tables.specs.declared.TableError.TheVariants as why;
+
+    ghost from_gives = { λ _ e. e ≡ why.Broken };
+
+    fn from(_: BrokenImage) -> TableError {
+        TableError::Broken
+    }
+}
+
 // How many entries a table has, and the bytes passed.
 #[derive(Clone, Copy)]
 pub struct Table {
@@ -71,6 +81,7 @@ pub struct Table {
 // after them, their count and the bytes passed. A size of 0 is none; the known size of an object symbol there beats it.
 // Broken (1) leaves the buffer as it was. Then, with the buffer all zeros: Ragged (8) where the size, cut to the section,
 // is no multiple of 4; at the first bad entry RelocationError (7) or PointsNowhere (9); Full (10) for more entries than room.
+#[tactic(auto, unfolding(crate::specs::Tables::table_of))]
 pub fn uniq_jump_table_entries(
     im: &[u32],
     bytes: &[u8],
@@ -83,8 +94,6 @@ pub fn uniq_jump_table_entries(
     ensures value { result ≡ (table_of im.now bytes.now at size start end entries.old).table }
     ensures buffer { entries.new ≡ (table_of im.now bytes.now at size start end entries.old).keys }
 {
-    match check_image(im, bytes) {
-        Err(_) => Err(TableError::Broken),
-        Ok(()) => table_in(im, bytes, at, size, start, end, entries),
-    }
+    let im = Image::new(im, bytes)?;
+    table_in(&im, at, size, start, end, entries)
 }

@@ -1,53 +1,50 @@
 // What one word of a table means.
-// Requires a sound image: tables sound, data inside the bytes.
-ghost use Rattle.std.specs.Prelude.{◌≡◌, true, length};
-ghost use Rattle.image.specs.Rules.{tables_sound, data_inside};
+ghost use Rattle.std.specs.Prelude.{◌≡◌};
 ghost use Rattle.jump_tables.specs.Readings.{bare_entry, in_function, sized_target, sized_word, guessed_target, guessed_word, sized_reading, guessed_reading, reading_of};
 
 use crate::{How, Reading};
 use image::numbers::EXECUTABLE;
+use image::{Image, Tables};
 use lookups::{Wanted, at_address, read_u32, relocation_target_for};
 use places::{RelocationTarget, SectionAddress, is_before};
 
 // The word at a place of a table whose size is known: Faulty (7), Nowhere (9), Skipped for a bare 0, or its Entry. Stopped
 // only where the section has no word there.
-pub fn sized_reading(im: &[u32], bytes: &[u8], p: SectionAddress) -> Reading
-    requires { (tables_sound im.now ≡ true) × (data_inside im.now (length bytes.now) ≡ true) }
-    ensures { result ≡ sized_reading im.now bytes.now p }
+#[tactic(auto, unfolding(crate::specs::Readings::sized_reading))]
+pub fn sized_reading(im: &Image<'_>, p: SectionAddress) -> Reading
+    ensures { result ≡ sized_reading im.now.tables.words.now im.now.«data».now p }
 {
-    match relocation_target_for(im, p, Wanted::Absolute) {
+    match relocation_target_for(&im.tables, p, Wanted::Absolute) {
         Err(_) => Reading::Faulty,
         Ok(Some(t)) => sized_target(t),
-        Ok(None) => sized_word(im, read_u32(im, bytes, p)),
+        Ok(None) => sized_word(&im.tables, read_u32(im, p)),
     }
 }
 
 // The word at a place of a table whose size is guessed: Faulty (7), Stopped, or its Entry.
+#[tactic(auto, unfolding(crate::specs::Readings::guessed_reading))]
 pub fn guessed_reading(
-    im: &[u32],
-    bytes: &[u8],
+    im: &Image<'_>,
     start: SectionAddress,
     end: Option<SectionAddress>,
     p: SectionAddress,
 ) -> Reading
-    requires { (tables_sound im.now ≡ true) × (data_inside im.now (length bytes.now) ≡ true) }
-    ensures { result ≡ guessed_reading im.now bytes.now start end p }
+    ensures { result ≡ guessed_reading im.now.tables.words.now im.now.«data».now start end p }
 {
-    match relocation_target_for(im, p, Wanted::Absolute) {
+    match relocation_target_for(&im.tables, p, Wanted::Absolute) {
         Err(_) => Reading::Faulty,
         Ok(Some(t)) => guessed_target(t, start, end),
-        Ok(None) => guessed_word(im, read_u32(im, bytes, p), start, end),
+        Ok(None) => guessed_word(&im.tables, read_u32(im, p), start, end),
     }
 }
 
 // The same, as the table is read.
-pub fn reading(im: &[u32], bytes: &[u8], how: How, p: SectionAddress) -> Reading
-    requires { (tables_sound im.now ≡ true) × (data_inside im.now (length bytes.now) ≡ true) }
-    ensures { result ≡ reading_of im.now bytes.now how p }
+pub fn reading(im: &Image<'_>, how: How, p: SectionAddress) -> Reading
+    ensures { result ≡ reading_of im.now.tables.words.now im.now.«data».now how p }
 {
     match how {
-        How::Sized => sized_reading(im, bytes, p),
-        How::Guessed(start, end) => guessed_reading(im, bytes, start, end, p),
+        How::Sized => sized_reading(im, p),
+        How::Guessed(start, end) => guessed_reading(im, start, end, p),
     }
 }
 
@@ -73,9 +70,8 @@ fn guessed_target(
     }
 }
 
-fn sized_word(im: &[u32], w: Option<u32>) -> Reading
-    requires { tables_sound im.now ≡ true }
-    ensures { result ≡ sized_word im.now w }
+fn sized_word(im: &Tables<'_>, w: Option<u32>) -> Reading
+    ensures { result ≡ sized_word im.now.words.now w }
 {
     let Some(v) = w else {
         return Reading::Stopped;
@@ -90,13 +86,12 @@ fn sized_word(im: &[u32], w: Option<u32>) -> Reading
 }
 
 fn guessed_word(
-    im: &[u32],
+    im: &Tables<'_>,
     w: Option<u32>,
     start: SectionAddress,
     end: Option<SectionAddress>,
 ) -> Reading
-    requires { tables_sound im.now ≡ true }
-    ensures { result ≡ guessed_word im.now start end w }
+    ensures { result ≡ guessed_word im.now.words.now start end w }
 {
     let Some(v) = w else {
         return Reading::Stopped;
@@ -108,11 +103,10 @@ fn guessed_word(
 }
 
 // The place that a bare word names: in an Executable by the first section that holds it, in a Relocatable none.
-fn bare_entry(im: &[u32], v: u32) -> Option<SectionAddress>
-    requires { tables_sound im.now ≡ true }
-    ensures { result ≡ bare_entry im.now v }
+fn bare_entry(im: &Tables<'_>, v: u32) -> Option<SectionAddress>
+    ensures { result ≡ bare_entry im.now.words.now v }
 {
-    if im[0] != EXECUTABLE {
+    if im.words[0] != EXECUTABLE {
         return None;
     }
     match at_address(im, v) {

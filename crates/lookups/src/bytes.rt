@@ -1,35 +1,32 @@
 // A section's bytes in the lent buffer, and the words in them.
-// Requires sound tables, and data inside the buffer.
-ghost use Rattle.std.specs.Prelude.{◌≡◌, true, ◌+◌, ◌-◌, ◌≤◌, ◌<◌, length, take, drop};
-ghost use Rattle.image.specs.Rules.{tables_sound, data_inside};
+ghost use Rattle.std.specs.Prelude.{◌≡◌, ◌+◌, ◌-◌, ◌≤◌, ◌<◌, length, take, drop};
 ghost use Rattle.lookups.specs.Bytes.{has_data, data_from, data_offset, word_at};
 
 use crate::sections::is_within;
 use image::numbers::BSS;
 use image::table::{section, section_count};
+use image::{Image, Tables};
 use places::SectionAddress;
 use words::bytes::four;
 
-// The caller's own bytes from a place to its section's end; none for Bss or an address outside.
-pub fn data_from<'a>(im: &[u32], bytes: &'a [u8], at: SectionAddress) -> &'a [u8]
-    requires { (tables_sound im.now ≡ true) × (data_inside im.now (length bytes.now) ≡ true) }
-    ensures result_value { result.now ≡ data_from im.now bytes.now at }
-    ensures own { (result.ref_ptr.0 ≡ bytes.entry.ref_ptr.0) × (result.ref_ptr.1 ≡ data_offset im.now at + bytes.entry.ref_ptr.1) }
+// The image's own bytes from a place to its section's end; none for Bss or an address outside.
+pub fn data_from<'a>(im: &Image<'a>, at: SectionAddress) -> &'a [u8]
+    ensures result_value { result.now ≡ data_from im.now.tables.words.now im.now.«data».now at }
+    ensures own { (result.ref_ptr.0 ≡ im.now.«data».ref_ptr.0) × (result.ref_ptr.1 ≡ data_offset im.now.tables.words.now at + im.now.«data».ref_ptr.1) }
 {
-    if has_data(im, at) {
-        let s = section(im, at.section as usize);
-        bytes_from(bytes, s.address, s.size, s.place, at.address)
+    if has_data(&im.tables, at) {
+        let s = section(im.tables.words, at.section as usize);
+        bytes_from(im.data, s.address, s.size, s.place, at.address)
     } else {
-        &bytes[0..0]
+        &im.data[0..0]
     }
 }
 
 // The big-endian word at a place, where its section has four bytes of data from there on.
-pub fn read_u32(im: &[u32], bytes: &[u8], at: SectionAddress) -> Option<u32>
-    requires { (tables_sound im.now ≡ true) × (data_inside im.now (length bytes.now) ≡ true) }
-    ensures { result ≡ word_at im.now bytes.now at }
+pub fn read_u32(im: &Image<'_>, at: SectionAddress) -> Option<u32>
+    ensures { result ≡ word_at im.now.tables.words.now im.now.«data».now at }
 {
-    let d = data_from(im, bytes, at);
+    let d = data_from(im, at);
     if d.len() < 4 {
         return None;
     }
@@ -37,15 +34,14 @@ pub fn read_u32(im: &[u32], bytes: &[u8], at: SectionAddress) -> Option<u32>
 }
 
 // Whether a place has data: its section exists, is no Bss and holds the address.
-fn has_data(im: &[u32], at: SectionAddress) -> bool
-    requires { tables_sound im.now ≡ true }
-    ensures { result ≡ has_data im.now at }
+fn has_data(im: &Tables<'_>, at: SectionAddress) -> bool
+    ensures { result ≡ has_data im.now.words.now at }
 {
     let i = at.section as usize;
-    if section_count(im) <= i {
+    if section_count(im.words) <= i {
         return false;
     }
-    let s = section(im, i);
+    let s = section(im.words, i);
     s.kind != BSS && is_within(s.address, s.size, at.address)
 }
 

@@ -1,5 +1,5 @@
 // Every lookup in an image, by the names of the Rust where it has them.
-// Each requires sound tables (image::check_image says so) and is called by our own crates alone.
+// Each takes tables that break no rule, or the whole image where it reads data; our own crates alone call these.
 #![tactic(auto, using(image::proofs::SoundTables::laid, image::proofs::SoundTables::sound_tables, search::proofs::FirstMatch::first_below))]
 
 use places::RelocationTarget;

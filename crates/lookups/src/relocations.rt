@@ -1,7 +1,5 @@
 // What the two relocation tables say of a place, and the place of a value.
-// Requires sound tables.
-ghost use Rattle.std.specs.Prelude.{◌≡◌, true, ◌+◌, ◌*◌, ◌<◌, length};
-ghost use Rattle.image.specs.Rules.{tables_sound};
+ghost use Rattle.std.specs.Prelude.{◌≡◌, ◌+◌, ◌*◌, ◌<◌, length};
 ghost use Rattle.lookups.specs.Relocations.{differs, bound_target, entry_is, unbound_index, into_section, unbound_target, unbound_for, relocation_for, target_at, place_in, bare_address, section_address_for};
 
 use crate::sections::{at_address, is_within};
@@ -10,31 +8,30 @@ use crate::{Relocation, RelocationError, Wanted};
 use image::elf::elf_index;
 use image::numbers::{ABSOLUTE, EXECUTABLE, NO_SECTION};
 use image::table::{bound, section, section_count, unbound, unbound_count, unbounds_from};
-use image::{Bound, Unbound};
+use image::{Bound, Tables, Unbound};
 use places::{RelocationTarget, SectionAddress};
 use search::first;
 use words::sum::wrapping_add;
 
 // What the tables say of a place: the bound one first, then the unbound one. None where neither has an entry.
 // Error for another kind than the wanted one, for an unbound target in no section, and for an address of 2^32 or more.
-pub fn relocation_target_for(im: &[u32], at: SectionAddress, wanted: Wanted) -> Relocation
-    requires { tables_sound im.now ≡ true }
-    ensures { result ≡ relocation_for im.now at wanted }
+#[tactic(auto, using(image::proofs::SoundTables::sound_tables, search::proofs::FirstMatch::first_below), unfolding(crate::specs::Relocations::relocation_for))]
+pub fn relocation_target_for(im: &Tables<'_>, at: SectionAddress, wanted: Wanted) -> Relocation
+    ensures { result ≡ relocation_for im.now.words.now at wanted }
 {
     let i = at.section as usize;
-    if section_count(im) <= i {
+    if section_count(im.words) <= i {
         return Ok(None);
     }
     match bound_index(im, at) {
-        Some(j) => bound_target(bound(im, j), wanted),
-        None => unbound_target_for(im, section(im, i).elf, at.address, wanted),
+        Some(j) => bound_target(bound(im.words, j), wanted),
+        None => unbound_target_for(im, section(im.words, i).elf, at.address, wanted),
     }
 }
 
 // The relocation at a place, of any kind; an error counts as none.
-pub fn target_at(im: &[u32], at: SectionAddress) -> Option<RelocationTarget>
-    requires { tables_sound im.now ≡ true }
-    ensures { result ≡ target_at im.now at }
+pub fn target_at(im: &Tables<'_>, at: SectionAddress) -> Option<RelocationTarget>
+    ensures { result ≡ target_at im.now.words.now at }
 {
     match relocation_target_for(im, at, Wanted::Any) {
         Ok(Some(t)) => Some(t),
@@ -45,9 +42,13 @@ pub fn target_at(im: &[u32], at: SectionAddress) -> Option<RelocationTarget>
 
 // Where a value at an instruction points: the relocation there if any; else, Executable, the section that holds the
 // value; else the instruction's own section if it holds it; else None.
-pub fn section_address_for(im: &[u32], at: SectionAddress, value: u32) -> Option<RelocationTarget>
-    requires { tables_sound im.now ≡ true }
-    ensures { result ≡ section_address_for im.now at value }
+#[tactic(auto, unfolding(crate::specs::Relocations::section_address_for))]
+pub fn section_address_for(
+    im: &Tables<'_>,
+    at: SectionAddress,
+    value: u32,
+) -> Option<RelocationTarget>
+    ensures { result ≡ section_address_for im.now.words.now at value }
 {
     match target_at(im, at) {
         Some(t) => Some(t),
@@ -57,12 +58,15 @@ pub fn section_address_for(im: &[u32], at: SectionAddress, value: u32) -> Option
 
 // The index of the first unbound entry for a section's elf number and an address. First match is the paper's rule, and
 // the table is in no order: a place with no entry costs one read of each entry, 4,096 at most.
-pub fn unbound_index(im: &[u32], elf: u32, a: u32) -> Option<usize>
-    requires { tables_sound im.now ≡ true }
-    ensures { result ≡ unbound_index im.now elf a }
+pub fn unbound_index(im: &Tables<'_>, elf: u32, a: u32) -> Option<usize>
+    ensures { result ≡ unbound_index im.now.words.now elf a }
 {
-    let from = unbounds_from(im);
-    first(unbound_count(im), |j| is_entry(im, from + j * 6, elf, a))
+    let words = im.words;
+    let from = unbounds_from(words);
+    first(
+        unbound_count(words),
+        |j| is_entry(words, from + j * 6, elf, a),
+    )
 }
 
 // Whether the entry that begins at a word is for that elf number and address. The address alone rules out most.
@@ -74,21 +78,20 @@ fn is_entry(im: &[u32], k: usize, elf: u32, a: u32) -> bool
 }
 
 // A value with no relocation: by the section that holds it in an Executable, else by section i alone.
-fn bare_address(im: &[u32], i: u32, value: u32) -> Option<RelocationTarget>
-    requires { tables_sound im.now ≡ true }
-    ensures { result ≡ bare_address im.now i value }
+fn bare_address(im: &Tables<'_>, i: u32, value: u32) -> Option<RelocationTarget>
+    ensures { result ≡ bare_address im.now.words.now i value }
 {
-    if im[0] == EXECUTABLE {
+    if im.words[0] == EXECUTABLE {
         return match at_address(im, value) {
             Some(k) => place_in(k, value),
             None => None,
         };
     }
     let own = i as usize;
-    if section_count(im) <= own {
+    if section_count(im.words) <= own {
         return None;
     }
-    let s = section(im, own);
+    let s = section(im.words, own);
     if is_within(s.address, s.size, value) {
         place_in(own, value)
     } else {
@@ -113,31 +116,29 @@ fn bound_target(r: Bound, wanted: Wanted) -> Relocation
 }
 
 // What the unbound table says of a section's elf number and an address.
-fn unbound_target_for(im: &[u32], elf: u32, a: u32, wanted: Wanted) -> Relocation
-    requires { tables_sound im.now ≡ true }
-    ensures { result ≡ unbound_for im.now elf a wanted }
+fn unbound_target_for(im: &Tables<'_>, elf: u32, a: u32, wanted: Wanted) -> Relocation
+    ensures { result ≡ unbound_for im.now.words.now elf a wanted }
 {
     let Some(j) = unbound_index(im, elf, a) else {
         return Ok(None);
     };
-    unbound_target(im, unbound(im, j), wanted)
+    unbound_target(im, unbound(im.words, j), wanted)
 }
 
 // What an unbound entry says: External is looked at before the kind.
-fn unbound_target(im: &[u32], r: Unbound, wanted: Wanted) -> Relocation
-    requires { tables_sound im.now ≡ true }
-    ensures { result ≡ unbound_target im.now wanted r }
+fn unbound_target(im: &Tables<'_>, r: Unbound, wanted: Wanted) -> Relocation
+    ensures { result ≡ unbound_target im.now.words.now wanted r }
 {
-    if r.module != im[1] {
+    if r.module != im.words[1] {
         return Ok(Some(RelocationTarget::External));
     }
     if is_other(wanted, r.kind) {
         return Err(RelocationError);
     }
-    let Some(i) = elf_index(im, r.target) else {
+    let Some(i) = elf_index(im.words, r.target) else {
         return Err(RelocationError);
     };
-    into_section(im, i, r.addend)
+    into_section(im.words, i, r.addend)
 }
 
 // The place an addend past the start of section i; an error at 2^32 or more.

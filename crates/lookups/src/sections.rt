@@ -1,20 +1,19 @@
 // Sections by address: the first that holds it.
-// Requires sound tables.
-ghost use Rattle.std.specs.Prelude.{◌≡◌, true};
-ghost use Rattle.image.specs.Rules.{tables_sound};
+ghost use Rattle.std.specs.Prelude.{◌≡◌};
 ghost use Rattle.lookups.specs.Sections.{at_address, within};
 
+use image::Tables;
 use image::table::section_count;
 use search::first;
 
 // The first section that holds the address, or none. It reads two words a section.
-pub fn at_address(im: &[u32], a: u32) -> Option<usize>
-    requires { tables_sound im.now ≡ true }
-    ensures { result ≡ at_address im.now a }
+pub fn at_address(im: &Tables<'_>, a: u32) -> Option<usize>
+    ensures { result ≡ at_address im.now.words.now a }
 {
+    let words = im.words;
     first(
-        section_count(im),
-        |i| is_within(im[i * 6 + 6], im[i * 6 + 7], a),
+        section_count(words),
+        |i| is_within(words[i * 6 + 6], words[i * 6 + 7], a),
     )
 }
 

@@ -1,40 +1,40 @@
 // The two sorted tables, bound relocations and object symbols, searched by halves.
-// Requires sound tables: their places ascend strictly, so the match that halving finds is the first.
+// In an image their places ascend strictly, so the match that halving finds is the first.
 ghost use Rattle.std.specs.Prelude.{◌≡◌, true, ◌+◌, ◌*◌, ◌^◌, ◌≤◌, ◌<◌, length};
 ghost use Rattle.search.specs.First.{first};
-ghost use Rattle.image.specs.Rules.{tables_sound, ascending};
+ghost use Rattle.image.specs.Rules.{ascending};
 ghost use Rattle.lookups.specs.Sections.{symbol_index, known_size};
 ghost use Rattle.lookups.specs.Relocations.{bound_index};
 ghost use Rattle.lookups.specs.Keys.{key_of, key_at, places_at, here_of};
 
+use image::Tables;
 use image::table::{bound_count, bounds_from, symbol, symbol_count, symbols_from};
 use places::SectionAddress;
 
 // The bound relocation at a place, or none: some twelve comparisons in a table of 4,096.
-pub fn bound_index(im: &[u32], at: SectionAddress) -> Option<usize>
-    requires { tables_sound im.now ≡ true }
-    ensures { result ≡ bound_index im.now at }
+pub fn bound_index(im: &Tables<'_>, at: SectionAddress) -> Option<usize>
+    ensures { result ≡ bound_index im.now.words.now at }
 {
-    index_by_halves(im, bounds_from(im), 6, bound_count(im), at)
+    let words = im.words;
+    index_by_halves(words, bounds_from(words), 6, bound_count(words), at)
 }
 
 // The object symbol at a place, or none, as cheaply.
-pub fn symbol_index(im: &[u32], at: SectionAddress) -> Option<usize>
-    requires { tables_sound im.now ≡ true }
-    ensures { result ≡ symbol_index im.now at }
+pub fn symbol_index(im: &Tables<'_>, at: SectionAddress) -> Option<usize>
+    ensures { result ≡ symbol_index im.now.words.now at }
 {
-    index_by_halves(im, symbols_from(im), 4, symbol_count(im), at)
+    let words = im.words;
+    index_by_halves(words, symbols_from(words), 4, symbol_count(words), at)
 }
 
 // The known size of the object symbol at a place; 0 for no symbol and for an unknown size.
-pub fn known_size(im: &[u32], at: SectionAddress) -> u32
-    requires { tables_sound im.now ≡ true }
-    ensures { result ≡ known_size im.now at }
+pub fn known_size(im: &Tables<'_>, at: SectionAddress) -> u32
+    ensures { result ≡ known_size im.now.words.now at }
 {
     let Some(j) = symbol_index(im, at) else {
         return 0;
     };
-    let s = symbol(im, j);
+    let s = symbol(im.words, j);
     if s.known == 1 { s.size } else { 0 }
 }
 

@@ -1,7 +1,8 @@
 -- What pushing leaves, piece by piece, in the words of crate `turns` (`Piles`).
 -- Assumes nothing.
-use Rattle.std.specs.Prelude.{ℕ, ◌≡◌, Bool, true, false, List, map, length, take, eqb, Option}
+use Rattle.std.specs.Prelude.{ℕ, ◌≡◌, Bool, true, false, List, ◌∷◌, map, length, take, eqb, Option}
 use Rattle.places.specs.declared.SectionAddress.{SectionAddress}
+use Rattle.places.specs.Places.{moved}
 use Rattle.places.specs.declared.RelocationTarget.{RelocationTarget}
 use Rattle.places.specs.declared.RelocationTarget.TheVariants as target
 use Rattle.lookups.specs.Code.{code_place}
@@ -11,7 +12,7 @@ use Rattle.vm.specs.declared.BranchTarget.TheVariants as branch
 use Rattle.step.specs.declared.Leave.{Leave}
 use Rattle.stack.specs.Stack.{Stack, Entry, room}
 use Rattle.jump_tables.specs.Tables.{Outcome}
-use Rattle.turns.specs.Grounds.{Way, table, leave, Pile}
+use Rattle.turns.specs.Grounds.{Way, to, table, leave, Pile}
 use Rattle.turns.specs.Turns.{push_at, push_each, take_way, take_ways}
 use Rattle.turns.specs.Moves.{Asked, Lent, is_fine, place_of, asked_of, ways_of, ground_of, table_room}
 use Rattle.turns.specs.Straight.{leaving}
@@ -85,3 +86,8 @@ pub record TakenWays (ws bs : List ℕ) (from : SectionAddress) (upto : Option S
   pub held : Stack words' r.held
   pub words_length : length words' ≡ length words
   pub buffer_length : length buffer' ≡ table_room
+
+-- the next word with one state, then a target with another: the ways of any word that leaves by those two
+abbrev pub TakenTwo : List ℕ → List ℕ → SectionAddress → Option SectionAddress → List ℕ → ℕ → List ℕ → SectionAddress → BranchTarget → VM → VM → VM → List ℕ → List ℕ → Taken → Type 0
+TakenTwo ws bs from upto words n buffer at t s₁ s₂ s words' buffer' r =
+    (l : Leave) → leaving l at s ≡ leave (to (moved at 4) s₁ ∷ ways_of t s₂) → TakenWays ws bs from upto words n buffer at l s words' buffer' r

@@ -1,24 +1,24 @@
 // What a word asks when it leaves a block: places are pushed in order, each with its own state; a table is read, then its entries pushed.
-// Requires a sound image, words and a count that are a stack, and cells that hold the state; our own crates alone call these.
+// Requires words and a count that are a stack, and cells that hold the state; our own crates alone call these.
 #![tactic(auto)]
 
 pub mod tables;
 pub mod targets;
 
-ghost use Rattle.std.specs.Prelude.{◌≡◌, true, length};
-ghost use Rattle.image.specs.Rules.{tables_sound, data_inside};
+ghost use Rattle.std.specs.Prelude.{◌≡◌, length};
 ghost use Rattle.cells.specs.Cells.{state_of, Cells};
 ghost use Rattle.clones.specs.Clones.{made_of};
 ghost use Rattle.stack.specs.Stack.{Stack};
 ghost use Rattle.turns.specs.Moves.{table_room};
-ghost use Rattle.pushes.specs.Takes.{none, PushedAt, TakenTarget, TakenWays};
+ghost use Rattle.pushes.specs.Takes.{none, PushedAt, TakenTarget, TakenTwo, TakenWays};
 
 use clones::Made;
+use image::{Image, Tables};
 use places::{RelocationTarget, SectionAddress};
 use step::Leave;
 use tables::take_table;
 use targets::{is_way, is_word, stays_in};
-use vm::{BranchTarget, GprValue};
+use vm::BranchTarget;
 
 // What pushing leaves: how many states wait, whether a push was refused (5), tables read and not read. A flag and no Result:
 // the states and the counts stand where a push was refused too.
@@ -43,15 +43,15 @@ fn nothing(count: usize) -> Taken
 
 // One place with what a way makes of the state: pushed if it is an aligned code word, sorted.
 pub fn push_at(
-    im: &[u32],
+    im: &Tables<'_>,
     stack: &mut [u32],
     count: usize,
     q: SectionAddress,
     cells: &[u32],
     made: Made,
 ) -> Taken
-    requires { (tables_sound im.now ≡ true) × Stack stack.old count × Cells cells.now (state_of cells.now) }
-    ensures { PushedAt im.now stack.old count q (made_of made (state_of cells.now)) stack.new result }
+    requires { Stack stack.old count × Cells cells.now (state_of cells.now) }
+    ensures { PushedAt im.now.words.now stack.old count q (made_of made (state_of cells.now)) stack.new result }
 {
     if is_word(im, q) {
         let p = stack::push(stack, count, q, cells, made, true);
@@ -67,8 +67,7 @@ pub fn push_at(
 
 // A target with its state: a place, or a table.
 fn take_target(
-    im: &[u32],
-    bytes: &[u8],
+    im: &Image<'_>,
     from: SectionAddress,
     upto: Option<SectionAddress>,
     stack: &mut [u32],
@@ -78,20 +77,20 @@ fn take_target(
     cells: &[u32],
     made: Made,
 ) -> Taken
-    requires im_value { (tables_sound im.now ≡ true) × (data_inside im.now (length bytes.now) ≡ true) × Cells cells.now (state_of cells.now) }
+    requires cells { Cells cells.now (state_of cells.now) }
     requires stack { Stack stack.old count × (length entries.old ≡ table_room) }
-    ensures { TakenTarget im.now bytes.now from upto stack.old count entries.old t (made_of made (state_of cells.now)) stack.new entries.new result }
+    ensures { TakenTarget im.now.tables.words.now im.now.«data».now from upto stack.old count entries.old t (made_of made (state_of cells.now)) stack.new entries.new result }
 {
     match t {
         BranchTarget::Unknown => nothing(count),
         BranchTarget::Return => nothing(count),
         BranchTarget::Address(a) => match a {
             RelocationTarget::External => nothing(count),
-            RelocationTarget::Address(q) => push_at(im, stack, count, q, cells, made),
+            RelocationTarget::Address(q) => push_at(&im.tables, stack, count, q, cells, made),
         },
         BranchTarget::JumpTable { address, size } => {
             take_table(
-                im, bytes, from, upto, stack, count, entries, address, size, cells, made,
+                im, from, upto, stack, count, entries, address, size, cells, made,
             )
         }
     }
@@ -99,8 +98,7 @@ fn take_target(
 
 // A jump: into another section, or through a table. One inside the section is not taken here.
 fn take_jump(
-    im: &[u32],
-    bytes: &[u8],
+    im: &Image<'_>,
     from: SectionAddress,
     upto: Option<SectionAddress>,
     stack: &mut [u32],
@@ -110,34 +108,22 @@ fn take_jump(
     t: BranchTarget,
     cells: &[u32],
 ) -> Taken
-    requires im_value { (tables_sound im.now ≡ true) × (data_inside im.now (length bytes.now) ≡ true) × Cells cells.now (state_of cells.now) }
+    requires cells { Cells cells.now (state_of cells.now) }
     requires stack { Stack stack.old count × (length entries.old ≡ table_room) }
-    ensures { TakenWays im.now bytes.now from upto stack.old count entries.old at (Leave.Jump t) (state_of cells.now) stack.new entries.new result }
+    ensures { TakenWays im.now.tables.words.now im.now.«data».now from upto stack.old count entries.old at (Leave.Jump t) (state_of cells.now) stack.new entries.new result }
 {
     if stays_in(at, t) {
         return nothing(count);
     }
-    if is_way(im, t) {
-        return take_target(
-            im,
-            bytes,
-            from,
-            upto,
-            stack,
-            count,
-            entries,
-            t,
-            cells,
-            Made::Same,
-        );
+    if is_way(&im.tables, t) {
+        return take_target(im, from, upto, stack, count, entries, t, cells, Made::Same);
     }
     nothing(count)
 }
 
-// A linked branch: the next word, back from the call, then the target, into it.
-fn take_call(
-    im: &[u32],
-    bytes: &[u8],
+// A branch with two ways: the next word with what the first makes of the state, then the target with what the second makes of it.
+fn take_two(
+    im: &Image<'_>,
     from: SectionAddress,
     upto: Option<SectionAddress>,
     stack: &mut [u32],
@@ -146,122 +132,33 @@ fn take_call(
     at: SectionAddress,
     t: BranchTarget,
     cells: &[u32],
+    stays: Made,
+    goes: Made,
 ) -> Taken
-    requires im_value { (tables_sound im.now ≡ true) × (data_inside im.now (length bytes.now) ≡ true) × Cells cells.now (state_of cells.now) }
+    requires cells { Cells cells.now (state_of cells.now) }
     requires stack { Stack stack.old count × (length entries.old ≡ table_room) }
-    ensures { TakenWays im.now bytes.now from upto stack.old count entries.old at (Leave.Call t) (state_of cells.now) stack.new entries.new result }
-{
-    let first = push_at(im, stack, count, places::offset(at, 4), cells, Made::Return);
-    if first.full {
-        return first;
-    }
-    if is_way(im, t) {
-        return take_target(
-            im,
-            bytes,
-            from,
-            upto,
-            stack,
-            first.held,
-            entries,
-            t,
-            cells,
-            Made::Link,
-        );
-    }
-    first
-}
-
-// A conditional branch: the next word, then the target, each with what it knows of the compared registers.
-fn take_fork(
-    im: &[u32],
-    bytes: &[u8],
-    from: SectionAddress,
-    upto: Option<SectionAddress>,
-    stack: &mut [u32],
-    count: usize,
-    entries: &mut [u64],
-    at: SectionAddress,
-    t: BranchTarget,
-    crf: u8,
-    stays: GprValue,
-    goes: GprValue,
-    cells: &[u32],
-) -> Taken
-    requires im_value { (tables_sound im.now ≡ true) × (data_inside im.now (length bytes.now) ≡ true) × Cells cells.now (state_of cells.now) }
-    requires stack { Stack stack.old count × (length entries.old ≡ table_room) }
-    ensures { TakenWays im.now bytes.now from upto stack.old count entries.old at (Leave.Fork t crf stays goes) (state_of cells.now) stack.new entries.new result }
+    ensures { TakenTwo im.now.tables.words.now im.now.«data».now from upto stack.old count entries.old at t (made_of stays (state_of cells.now)) (made_of goes (state_of cells.now)) (state_of cells.now) stack.new entries.new result }
 {
     let first = push_at(
-        im,
+        &im.tables,
         stack,
         count,
         places::offset(at, 4),
         cells,
-        Made::Result { value: stays, crf },
+        stays,
     );
     if first.full {
         return first;
     }
-    if is_way(im, t) {
-        return take_target(
-            im,
-            bytes,
-            from,
-            upto,
-            stack,
-            first.held,
-            entries,
-            t,
-            cells,
-            Made::Result { value: goes, crf },
-        );
-    }
-    first
-}
-
-// A conditional branch that tells nothing.
-fn take_both(
-    im: &[u32],
-    bytes: &[u8],
-    from: SectionAddress,
-    upto: Option<SectionAddress>,
-    stack: &mut [u32],
-    count: usize,
-    entries: &mut [u64],
-    at: SectionAddress,
-    t: BranchTarget,
-    cells: &[u32],
-) -> Taken
-    requires im_value { (tables_sound im.now ≡ true) × (data_inside im.now (length bytes.now) ≡ true) × Cells cells.now (state_of cells.now) }
-    requires stack { Stack stack.old count × (length entries.old ≡ table_room) }
-    ensures { TakenWays im.now bytes.now from upto stack.old count entries.old at (Leave.Both t) (state_of cells.now) stack.new entries.new result }
-{
-    let first = push_at(im, stack, count, places::offset(at, 4), cells, Made::Same);
-    if first.full {
-        return first;
-    }
-    if is_way(im, t) {
-        return take_target(
-            im,
-            bytes,
-            from,
-            upto,
-            stack,
-            first.held,
-            entries,
-            t,
-            cells,
-            Made::Same,
-        );
+    if is_way(&im.tables, t) {
+        return take_target(im, from, upto, stack, first.held, entries, t, cells, goes);
     }
     first
 }
 
 // What a word that leaves asks: its ways in order, each with its own state; a table is read, then its entries are pushed ascending.
 pub fn take(
-    im: &[u32],
-    bytes: &[u8],
+    im: &Image<'_>,
     from: SectionAddress,
     upto: Option<SectionAddress>,
     stack: &mut [u32],
@@ -271,22 +168,33 @@ pub fn take(
     l: Leave,
     cells: &[u32],
 ) -> Taken
-    requires im_value { (tables_sound im.now ≡ true) × (data_inside im.now (length bytes.now) ≡ true) × Cells cells.now (state_of cells.now) }
+    requires cells { Cells cells.now (state_of cells.now) }
     requires stack { Stack stack.old count × (length entries.old ≡ table_room) }
-    ensures { TakenWays im.now bytes.now from upto stack.old count entries.old at l (state_of cells.now) stack.new entries.new result }
+    ensures { TakenWays im.now.tables.words.now im.now.«data».now from upto stack.old count entries.old at l (state_of cells.now) stack.new entries.new result }
 {
-    match l {
-        Leave::Ended | Leave::Illegal => nothing(count),
-        Leave::Jump(t) => take_jump(im, bytes, from, upto, stack, count, entries, at, t, cells),
-        Leave::Call(t) => take_call(im, bytes, from, upto, stack, count, entries, at, t, cells),
+    let (target, stays, goes) = match l {
+        Leave::Ended | Leave::Illegal => {
+            return nothing(count);
+        }
+        Leave::Jump(t) => {
+            return take_jump(im, from, upto, stack, count, entries, at, t, cells);
+        }
+        // Back from the call, then into it.
+        Leave::Call(t) => (t, Made::Return, Made::Link),
+        // Each with what it knows of the compared registers.
         Leave::Fork {
             target,
             crf,
             stays,
             goes,
-        } => take_fork(
-            im, bytes, from, upto, stack, count, entries, at, target, crf, stays, goes, cells,
+        } => (
+            target,
+            Made::Result { value: stays, crf },
+            Made::Result { value: goes, crf },
         ),
-        Leave::Both(t) => take_both(im, bytes, from, upto, stack, count, entries, at, t, cells),
-    }
+        Leave::Both(t) => (t, Made::Same, Made::Same),
+    };
+    take_two(
+        im, from, upto, stack, count, entries, at, target, cells, stays, goes,
+    )
 }

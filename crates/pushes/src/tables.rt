@@ -1,7 +1,6 @@
 // A jump table in a walk: it is read with the given function bounds, then its entries are pushed.
-// Requires a sound image, words and a count that are a stack, and an entry buffer of the walk's length, and cells that hold the state.
-ghost use Rattle.std.specs.Prelude.{◌≡◌, true, ◌≤◌, length};
-ghost use Rattle.image.specs.Rules.{tables_sound, data_inside};
+// Requires words and a count that are a stack, and an entry buffer of the walk's length, and cells that hold the state.
+ghost use Rattle.std.specs.Prelude.{◌≡◌, ◌≤◌, length};
 ghost use Rattle.cells.specs.Cells.{state_of, Cells};
 ghost use Rattle.clones.specs.Clones.{made_of};
 ghost use Rattle.stack.specs.Stack.{Stack};
@@ -10,6 +9,7 @@ ghost use Rattle.pushes.specs.Takes.{unread, PushedKeys, TakenTable};
 
 use crate::{Taken, nothing, push_at};
 use clones::Made;
+use image::{Image, Tables};
 use jump_tables::table_in;
 use places::{RelocationTarget, SectionAddress};
 
@@ -25,7 +25,7 @@ pub fn place_of(key: u64) -> SectionAddress
 
 // The first n entries of a table in order, each with the same state, until a push is refused.
 pub fn push_keys(
-    im: &[u32],
+    im: &Tables<'_>,
     stack: &mut [u32],
     count: usize,
     entries: &[u64],
@@ -33,8 +33,8 @@ pub fn push_keys(
     cells: &[u32],
     made: Made,
 ) -> Taken
-    requires { (tables_sound im.now ≡ true) × Stack stack.old count × (n ≤ length entries.now) × Cells cells.now (state_of cells.now) }
-    ensures { PushedKeys im.now stack.old count entries.now n (made_of made (state_of cells.now)) stack.new result }
+    requires { Stack stack.old count × (n ≤ length entries.now) × Cells cells.now (state_of cells.now) }
+    ensures { PushedKeys im.now.words.now stack.old count entries.now n (made_of made (state_of cells.now)) stack.new result }
 {
     let mut held = count;
     for key in &entries[..n] {
@@ -69,8 +69,7 @@ fn not_read(count: usize) -> Taken
 
 // A table: read, or External or refused and then counted as not read; its entries are pushed ascending, a refused one has none.
 pub fn take_table(
-    im: &[u32],
-    bytes: &[u8],
+    im: &Image<'_>,
     from: SectionAddress,
     upto: Option<SectionAddress>,
     stack: &mut [u32],
@@ -81,16 +80,16 @@ pub fn take_table(
     cells: &[u32],
     made: Made,
 ) -> Taken
-    requires im_value { (tables_sound im.now ≡ true) × (data_inside im.now (length bytes.now) ≡ true) × Cells cells.now (state_of cells.now) }
+    requires cells { Cells cells.now (state_of cells.now) }
     requires stack { Stack stack.old count × (length entries.old ≡ table_room) }
-    ensures { TakenTable im.now bytes.now from upto stack.old count entries.old t size (made_of made (state_of cells.now)) stack.new entries.new result }
+    ensures { TakenTable im.now.tables.words.now im.now.«data».now from upto stack.old count entries.old t size (made_of made (state_of cells.now)) stack.new entries.new result }
 {
     match t {
         RelocationTarget::External => not_read(count),
         RelocationTarget::Address(p) => {
-            match table_in(im, bytes, p, size_in(size), from, upto, entries) {
+            match table_in(im, p, size_in(size), from, upto, entries) {
                 Ok(t) => {
-                    let r = push_keys(im, stack, count, entries, t.count, cells, made);
+                    let r = push_keys(&im.tables, stack, count, entries, t.count, cells, made);
                     Taken { read: 1, ..r }
                 }
                 Err(_) => not_read(count),

@@ -1,38 +1,35 @@
 // Lookups in the current image: docs/FORMATS.md, kind 6.
-ghost use Rattle.std.specs.Prelude.{◌≡◌, true, length};
-ghost use Rattle.image.specs.Rules.{tables_sound, data_inside};
-
 use exchange::case::{Case, Words};
 use exchange::line::{Line, first_four};
+use image::{Image, Tables};
 use lookups::{PlaceError, Relocation, Wanted};
 use places::SectionAddress;
 
 pub(crate) fn lookup(case: Case, line: &mut Line) {
-    match image::check_image(case.image, case.data) {
+    match Image::new(case.image, case.data) {
         Err(_) => line.word(1),
-        Ok(()) => {
+        Ok(im) => {
             line.word(0);
-            in_tables(case.image, case.data, case.words, line);
+            in_tables(&im, case.words, line);
         }
     }
 }
 
-fn in_tables(im: &[u32], bytes: &[u8], asked: Words, line: &mut Line)
-    requires { (tables_sound im.now ≡ true) × (data_inside im.now (length bytes.now) ≡ true) }
-{
+#[tactic(auto, using(image::proofs::SoundTables::laid))]
+fn in_tables(im: &Image<'_>, asked: Words, line: &mut Line) {
     let mut p = asked;
     match p.word() {
-        1 => found(lookups::at_address(im, p.word()), line),
-        2 => found(image::elf::elf_index(im, p.word()), line),
+        1 => found(lookups::at_address(&im.tables, p.word()), line),
+        2 => found(image::elf::elf_index(im.tables.words, p.word()), line),
         3 => relocation(
-            lookups::relocation_target_for(im, p.place(), wanted(p.word())),
+            lookups::relocation_target_for(&im.tables, p.place(), wanted(p.word())),
             line,
         ),
-        4 => line.maybe_target(lookups::section_address_for(im, p.place(), p.word())),
-        5 => line.word(lookups::known_size(im, p.place())),
-        6 => sums(lookups::data_from(im, bytes, p.place()), line),
-        7 => visited_bit(im, p.place(), line),
-        _ => word_there(lookups::read_u32(im, bytes, p.place()), line),
+        4 => line.maybe_target(lookups::section_address_for(&im.tables, p.place(), p.word())),
+        5 => line.word(lookups::known_size(&im.tables, p.place())),
+        6 => sums(lookups::data_from(im, p.place()), line),
+        7 => visited_bit(&im.tables, p.place(), line),
+        _ => word_there(lookups::read_u32(im, p.place()), line),
     }
 }
 
@@ -90,10 +87,9 @@ fn sums(bytes: &[u8], line: &mut Line) {
     line.many(&[first, second, first_four(bytes)]);
 }
 
-fn visited_bit(im: &[u32], place: SectionAddress, line: &mut Line)
-    requires { tables_sound im.now ≡ true }
-{
-    line.count(image::code::code_words(im));
+#[tactic(auto, using(image::proofs::SoundTables::laid))]
+fn visited_bit(im: &Tables<'_>, place: SectionAddress, line: &mut Line) {
+    line.count(image::code::code_words(im.words));
     match lookups::code_place(im, place) {
         Err(PlaceError::NotCode) => line.many(&[2, 0]),
         Err(PlaceError::Misaligned) => line.many(&[3, 0]),

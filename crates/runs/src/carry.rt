@@ -1,7 +1,6 @@
 // An effect, carried out on cells.
-// The image's tables are sound, and the cells hold a state.
-ghost use Rattle.std.specs.Prelude.{◌≡◌, true, ◌/◌};
-ghost use Rattle.image.specs.Rules.{tables_sound};
+// The cells hold a state.
+ghost use Rattle.std.specs.Prelude.{◌≡◌, ◌/◌};
 ghost use Rattle.vm.specs.Registers.{reg, cr_at};
 ghost use Rattle.step.specs.Arms.{ra_of, compare_of};
 ghost use Rattle.step.specs.Ways.{bi_of, leave_of};
@@ -13,6 +12,7 @@ use cells::{
     compare_in, ctr_in, forget, lr_in, register_in, set_compare, set_ctr, set_lr, set_register,
 };
 use decoder::Writes;
+use image::Tables;
 use places::SectionAddress;
 use step::{Effect, Leave, Way, ways};
 use vm::register::{set_direct, with_value};
@@ -20,9 +20,9 @@ use vm::{Cr, GprValue};
 use words::field;
 
 // How the word leaves.
-pub fn leaves(im: &[u32], at: SectionAddress, w: u32, way: Way, cells: &[u32]) -> Leave
-    requires { (tables_sound im.now ≡ true) × Cells cells.now (state_of cells.now) }
-    ensures { result ≡ leave_of way im.now at w (state_of cells.now).ctr.value (cr_at (state_of cells.now) (bi_of w / 4)) }
+pub fn leaves(im: &Tables<'_>, at: SectionAddress, w: u32, way: Way, cells: &[u32]) -> Leave
+    requires { Cells cells.now (state_of cells.now) }
+    ensures { result ≡ leave_of way im.now.words.now at w (state_of cells.now).ctr.value (cr_at (state_of cells.now) (bi_of w / 4)) }
 {
     let k = (field::bi(w) / 4) as usize;
     ways::leave(im, at, w, way, ctr_in(cells), compare_in(cells, k))
@@ -73,9 +73,9 @@ pub fn compared(w: u32, right: GprValue, signed: bool, cells: &mut [u32])
 }
 
 // Any effect: the state after it stands in the cells, or, where the word leaves, the state as it was.
-pub fn carry(im: &[u32], at: SectionAddress, w: u32, e: Effect, cells: &mut [u32]) -> Leave
-    requires { (tables_sound im.now ≡ true) × Cells cells.old (state_of cells.old) }
-    ensures { Carries im.now at w e (state_of cells.old) result cells.new }
+pub fn carry(im: &Tables<'_>, at: SectionAddress, w: u32, e: Effect, cells: &mut [u32]) -> Leave
+    requires { Cells cells.old (state_of cells.old) }
+    ensures { Carries im.now.words.now at w e (state_of cells.old) result cells.new }
 {
     let d = field::rd(w);
     let a = field::ra(w);

@@ -1,16 +1,16 @@
 // A straight run over a state that stays in its cells: words until one ends the run, or the bytes do.
-// The image's tables are sound, and the cells hold a state.
-#![tactic(auto)]
+// The cells hold a state.
+#![tactic(auto, using(cells::proofs::CellLaws::cells_long))]
 
 pub mod carry;
 pub mod word;
 
-ghost use Rattle.std.specs.Prelude.{◌≡◌, true};
-ghost use Rattle.image.specs.Rules.{tables_sound};
+ghost use Rattle.std.specs.Prelude.{◌≡◌};
 ghost use Rattle.cells.specs.Cells.{state_of, Cells};
 ghost use Rattle.turns.specs.Straight.{is_ended};
 ghost use Rattle.runs.specs.Went.{Halts};
 
+use image::Tables;
 use places::SectionAddress;
 use step::Leave;
 use word::one;
@@ -30,9 +30,9 @@ pub fn is_ended(l: Leave) -> bool
 }
 
 // `code` is the bytes from the place on, to its section's end.
-pub fn run(im: &[u32], code: &[u8], at: SectionAddress, cells: &mut [u32]) -> Halted
-    requires { (tables_sound im.now ≡ true) × Cells cells.old (state_of cells.old) }
-    ensures { Halts im.now code.now at (state_of cells.old) result cells.new }
+pub fn run(im: &Tables<'_>, code: &[u8], at: SectionAddress, cells: &mut [u32]) -> Halted
+    requires { Cells cells.old (state_of cells.old) }
+    ensures { Halts im.now.words.now code.now at (state_of cells.old) result cells.new }
 {
     let mut p = at;
     for k in 0..code.len() / 4 {

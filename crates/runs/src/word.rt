@@ -1,7 +1,6 @@
 // One word on cells. The commonest words are told by their opcode and read no more registers than they need; a base that is
-// not updated stays. The image's tables are sound, and the cells hold a state.
-ghost use Rattle.std.specs.Prelude.{◌≡◌, true};
-ghost use Rattle.image.specs.Rules.{tables_sound};
+// not updated stays. The cells hold a state.
+ghost use Rattle.std.specs.Prelude.{◌≡◌};
 ghost use Rattle.decoder.specs.Decode.{decoded};
 ghost use Rattle.cells.specs.Cells.{state_of, Cells};
 ghost use Rattle.runs.specs.Went.{Went};
@@ -10,6 +9,7 @@ use crate::carry;
 use carry::{carry, clear, compared, leaves};
 use cells::{forget, register_in, set_register};
 use decoder::{Decoded, Op};
+use image::Tables;
 use places::SectionAddress;
 use step::{Leave, Way, arms, records};
 use vm::register::set_direct;
@@ -17,9 +17,9 @@ use vm::{GprValue, rule};
 use words::{field, mask};
 
 // Any word, by its arm.
-fn rest(im: &[u32], at: SectionAddress, w: u32, dec: Decoded, cells: &mut [u32]) -> Leave
-    requires { (tables_sound im.now ≡ true) × Cells cells.old (state_of cells.old) × (dec ≡ decoded w) }
-    ensures { Went im.now at w (state_of cells.old) result cells.new }
+fn rest(im: &Tables<'_>, at: SectionAddress, w: u32, dec: Decoded, cells: &mut [u32]) -> Leave
+    requires { Cells cells.old (state_of cells.old) × (dec ≡ decoded w) }
+    ensures { Went im.now.words.now at w (state_of cells.old) result cells.new }
 {
     let gs = register_in(cells, field::rd(w));
     let ga = register_in(cells, field::ra(w));
@@ -28,9 +28,9 @@ fn rest(im: &[u32], at: SectionAddress, w: u32, dec: Decoded, cells: &mut [u32])
 }
 
 // A word under 31.
-fn extended(im: &[u32], at: SectionAddress, w: u32, cells: &mut [u32]) -> Leave
-    requires { (tables_sound im.now ≡ true) × Cells cells.old (state_of cells.old) }
-    ensures { Went im.now at w (state_of cells.old) result cells.new }
+fn extended(im: &Tables<'_>, at: SectionAddress, w: u32, cells: &mut [u32]) -> Leave
+    requires { Cells cells.old (state_of cells.old) }
+    ensures { Went im.now.words.now at w (state_of cells.old) result cells.new }
 {
     let dec = decoder::decode(w);
     let op = dec.op;
@@ -97,9 +97,9 @@ fn extended(im: &[u32], at: SectionAddress, w: u32, cells: &mut [u32]) -> Leave
 }
 
 // What the word does to the state in the cells, or how it leaves; Ended says that the run goes on.
-pub fn one(im: &[u32], at: SectionAddress, w: u32, cells: &mut [u32]) -> Leave
-    requires { (tables_sound im.now ≡ true) × Cells cells.old (state_of cells.old) }
-    ensures { Went im.now at w (state_of cells.old) result cells.new }
+pub fn one(im: &Tables<'_>, at: SectionAddress, w: u32, cells: &mut [u32]) -> Leave
+    requires { Cells cells.old (state_of cells.old) }
+    ensures { Went im.now.words.now at w (state_of cells.old) result cells.new }
 {
     match field::opcd(w) {
         // cmpli [crfD], [L], rA, UIMM

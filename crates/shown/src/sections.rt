@@ -1,11 +1,8 @@
 // Each section, and its visited runs as address ranges.
-ghost use Rattle.std.specs.Prelude.{◌≡◌, true};
-ghost use Rattle.image.specs.Rules.{tables_sound};
-
 use crate::runs::CodeWords;
-use image::Section;
 use image::code::words_of;
 use image::table::{section, section_count};
+use image::{Section, Tables};
 use std::io;
 use words::sum::wrapping_add;
 
@@ -18,13 +15,11 @@ struct Part {
 }
 
 // Every section in order.
-pub fn show(rt: &impl Print, im: &[u32], map: &[u32], lines: bool) -> io::Result<()>
-    requires { tables_sound im.now ≡ true }
-{
-    let n = section_count(im);
+pub fn show(rt: &impl Print, im: &Tables<'_>, map: &[u32], lines: bool) -> io::Result<()> {
+    let n = section_count(im.words);
     let mut base: usize = 0;
     for i in 0..n {
-        let s = section(im, i);
+        let s = section(im.words, i);
         let count = words_of(s);
         let words = CodeWords {
             base: base as u32,

@@ -1,11 +1,10 @@
 // The arms of vm.rs: from a word and the records of its operands to what it does.
-// The image's tables are sound.
-ghost use Rattle.std.specs.Prelude.{◌≡◌, true};
-ghost use Rattle.image.specs.Rules.{tables_sound};
+ghost use Rattle.std.specs.Prelude.{◌≡◌};
 ghost use Rattle.step.specs.Arms.{effect_of};
 
 use crate::{Effect, Way, records};
 use decoder::{Decoded, Op};
+use image::Tables;
 use places::SectionAddress;
 use vm::register::set_direct;
 use vm::{Gpr, GprValue, rule};
@@ -14,7 +13,7 @@ use words::{field, mask};
 // gs, ga and gb are the records of rS (the bits of rD), rA and rB.
 #[tactic(auto, using(crate::proofs::Masks::masked), unfolding(crate::specs::Arms::effect_by))]
 pub fn effect(
-    im: &[u32],
+    im: &Tables<'_>,
     at: SectionAddress,
     w: u32,
     dec: Decoded,
@@ -22,8 +21,7 @@ pub fn effect(
     ga: Gpr,
     gb: Gpr,
 ) -> Effect
-    requires { tables_sound im.now ≡ true }
-    ensures { result ≡ effect_of dec im.now at w gs ga gb }
+    ensures { result ≡ effect_of dec im.now.words.now at w gs ga gb }
 {
     let op = dec.op;
     let writes = dec.writes;

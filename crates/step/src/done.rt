@@ -1,11 +1,10 @@
 // One step by value: the effect carried out on a state that is handed over and back.
-// The image's tables are sound.
-ghost use Rattle.std.specs.Prelude.{◌≡◌, true};
-ghost use Rattle.image.specs.Rules.{tables_sound};
+ghost use Rattle.std.specs.Prelude.{◌≡◌};
 ghost use Rattle.step.specs.Step.{goes_on, access_result, accessed, cleared_of, step_of};
 
 use crate::{Effect, StepResult, Stepped, arms, ways};
 use decoder::Writes;
+use image::Tables;
 use places::{RelocationTarget, SectionAddress};
 use vm::register::set_direct;
 use vm::{Gpr, GprValue, Held, VM};
@@ -72,9 +71,8 @@ fn clear(kind: Writes, w: u32, s: VM) -> VM
 }
 
 #[tactic(auto, unfolding(crate::specs::Step::done_of, crate::specs::Step::step_of))]
-pub fn step_word(im: &[u32], at: SectionAddress, w: u32, s: VM) -> Stepped
-    requires { tables_sound im.now ≡ true }
-    ensures { result ≡ step_of im.now at w s }
+pub fn step_word(im: &Tables<'_>, at: SectionAddress, w: u32, s: VM) -> Stepped
+    ensures { result ≡ step_of im.now.words.now at w s }
 {
     let mut t = s;
     let d = field::rd(w);

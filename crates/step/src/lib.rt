@@ -11,7 +11,7 @@ pub mod records;
 pub mod ways;
 
 use decoder::Writes;
-use image::BrokenImage;
+use image::Image;
 use lookups::PlaceError;
 use places::{RelocationTarget, SectionAddress};
 use vm::{BranchTarget, Cr, Gpr, GprValue, VM};
@@ -137,12 +137,12 @@ fn refused(why: Refusal, state: VM) -> Stepped
 pub fn step(im: &[u32], data: &[u8], at: SectionAddress, word: u32, state: VM) -> Stepped
     ensures { result ≡ stepped_of im.now (length «data».now) at word state }
 {
-    match image::check_image(im, data) {
+    match Image::new(im, data) {
         Err(_) => refused(Refusal::BrokenImage, state),
-        Ok(()) => match lookups::code_place(im, at) {
+        Ok(im) => match lookups::code_place(&im.tables, at) {
             Err(PlaceError::NotCode) => refused(Refusal::NotCode, state),
             Err(PlaceError::Misaligned) => refused(Refusal::Misaligned, state),
-            Ok(()) => done::step_word(im, at, word, state),
+            Ok(()) => done::step_word(&im.tables, at, word, state),
         },
     }
 }

@@ -1,13 +1,12 @@
 // The record that each arm of vm.rs gives its register, where it takes more than a rule on values.
-// The image's tables are sound wherever they are asked.
-ghost use Rattle.std.specs.Prelude.{◌≡◌, true};
+ghost use Rattle.std.specs.Prelude.{◌≡◌};
 ghost use Rattle.vm.specs.Rules.{address_of, seen_of};
-ghost use Rattle.image.specs.Rules.{tables_sound};
 ghost use Rattle.lookups.specs.Relocations.{section_address_for, target_at};
 ghost use Rattle.step.specs.Arms.{addis_gpr, addi_gpr, ori_gpr, or_gpr, compare_of, to_spr, from_spr, access_of};
 
 use crate::Effect;
 use decoder::Op;
+use image::Tables;
 use places::{RelocationTarget, SectionAddress};
 use vm::register::{set_direct, set_hi, set_lo, with_value};
 use vm::{Cr, Gpr, GprValue, rule};
@@ -124,9 +123,8 @@ pub fn mfspr(w: u32) -> Effect
 }
 
 // Gpr::address
-pub fn address(im: &[u32], at: SectionAddress, value: GprValue) -> Option<RelocationTarget>
-    requires { tables_sound im.now ≡ true }
-    ensures { result ≡ address_of (section_address_for im.now at) value }
+pub fn address(im: &Tables<'_>, at: SectionAddress, value: GprValue) -> Option<RelocationTarget>
+    ensures { result ≡ address_of (section_address_for im.now.words.now at) value }
 {
     match value {
         GprValue::Constant(n) => lookups::section_address_for(im, at, n),
@@ -136,9 +134,8 @@ pub fn address(im: &[u32], at: SectionAddress, value: GprValue) -> Option<Reloca
 }
 
 // What a displacement load or store reaches: an Address base does not get the displacement.
-fn reach(im: &[u32], at: SectionAddress, base: GprValue, simm: u32) -> Option<RelocationTarget>
-    requires { tables_sound im.now ≡ true }
-    ensures { result ≡ seen_of (section_address_for im.now at) base simm }
+fn reach(im: &Tables<'_>, at: SectionAddress, base: GprValue, simm: u32) -> Option<RelocationTarget>
+    ensures { result ≡ seen_of (section_address_for im.now.words.now at) base simm }
 {
     match base {
         GprValue::Constant(n) => {
@@ -151,9 +148,8 @@ fn reach(im: &[u32], at: SectionAddress, base: GprValue, simm: u32) -> Option<Re
 
 // The displacement loads and stores
 #[tactic(auto, unfolding(crate::specs::Arms::access_of))]
-pub fn access(im: &[u32], at: SectionAddress, w: u32, op: Op, ga: Gpr) -> Effect
-    requires { tables_sound im.now ≡ true }
-    ensures { result ≡ access_of op im.now at w ga }
+pub fn access(im: &Tables<'_>, at: SectionAddress, w: u32, op: Op, ga: Gpr) -> Effect
+    ensures { result ≡ access_of op im.now.words.now at w ga }
 {
     let seen = reach(im, at, ga.value, field::simm(w));
     let base = rule::base(ga, decoder::class::is_update_op(op), seen, at);

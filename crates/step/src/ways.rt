@@ -1,12 +1,11 @@
 // The words that end a straight run: where they go, and what the two sides of a branch know.
-// The image's tables are sound wherever they are asked.
-ghost use Rattle.std.specs.Prelude.{◌≡◌, true};
-ghost use Rattle.image.specs.Rules.{tables_sound};
+ghost use Rattle.std.specs.Prelude.{◌≡◌};
 ghost use Rattle.lookups.specs.Relocations.{section_address_for};
 ghost use Rattle.vm.specs.Rules.{reached_of};
 ghost use Rattle.step.specs.Ways.{ctr_target, dest_target, conditional_of, branch_of, leave_of, branches_of, left_of};
 
 use crate::{Branch, Leave, StepResult, Stepped, Way};
+use image::Tables;
 use places::{RelocationTarget, SectionAddress};
 use vm::{BranchTarget, Cr, GprValue, VM, rule};
 use words::field;
@@ -21,9 +20,8 @@ fn reached(known: Option<RelocationTarget>) -> BranchTarget
 }
 
 // Where CTR leads; a linked branch is never taken for a jump table.
-fn ctr_target(im: &[u32], at: SectionAddress, ctr: GprValue, lk: bool) -> BranchTarget
-    requires { tables_sound im.now ≡ true }
-    ensures { result ≡ ctr_target (section_address_for im.now at) lk ctr }
+fn ctr_target(im: &Tables<'_>, at: SectionAddress, ctr: GprValue, lk: bool) -> BranchTarget
+    ensures { result ≡ ctr_target (section_address_for im.now.words.now at) lk ctr }
 {
     match ctr {
         GprValue::Constant(n) => reached(lookups::section_address_for(im, at, n)),
@@ -40,9 +38,8 @@ fn ctr_target(im: &[u32], at: SectionAddress, ctr: GprValue, lk: bool) -> Branch
 }
 
 // Where b and bc lead.
-fn dest_target(im: &[u32], at: SectionAddress, w: u32) -> BranchTarget
-    requires { tables_sound im.now ≡ true }
-    ensures { result ≡ dest_target im.now at w }
+fn dest_target(im: &Tables<'_>, at: SectionAddress, w: u32) -> BranchTarget
+    ensures { result ≡ dest_target im.now.words.now at w }
 {
     let n = decoder::branch_dest(w, at.address);
     reached(lookups::section_address_for(im, at, n))
@@ -90,9 +87,8 @@ fn branch(w: u32, always: bool, target: BranchTarget, cr: Cr) -> Leave
 
 // cr is the compare record of the field that BI names.
 #[tactic(auto, unfolding(crate::specs::Ways::leave_of))]
-pub fn leave(im: &[u32], at: SectionAddress, w: u32, way: Way, ctr: GprValue, cr: Cr) -> Leave
-    requires { tables_sound im.now ≡ true }
-    ensures { result ≡ leave_of way im.now at w ctr cr }
+pub fn leave(im: &Tables<'_>, at: SectionAddress, w: u32, way: Way, ctr: GprValue, cr: Cr) -> Leave
+    ensures { result ≡ leave_of way im.now.words.now at w ctr cr }
 {
     let always = field::bo(w) & 20 == 20;
     match way {

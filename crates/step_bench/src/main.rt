@@ -2,17 +2,13 @@
 // instructions; the words follow, at most 16,383 of them. Prints where the last run stopped.
 #![tactic(auto)]
 
-ghost use Rattle.std.specs.Prelude.{◌≡◌, true};
-ghost use Rattle.image.specs.Rules.{tables_sound};
-
 use cells::STATE_WORDS;
+use image::Tables;
 use places::SectionAddress;
 use std::io;
 use streams::{read_full, room};
 
-fn repeat(im: &[u32], code: &[u8], turns: u32) -> u32
-    requires { tables_sound im.now ≡ true }
-{
+fn repeat(im: &Tables<'_>, code: &[u8], turns: u32) -> u32 {
     let start = SectionAddress {
         section: 0,
         address: 4096,
@@ -32,7 +28,7 @@ fn measure(rt: &impl Print, code: &[u8], turns: u32) -> io::Result<()> {
     let size = (code.len() % 65536) as u32;
     let im = [0, 0, 1, 0, 0, 0, 4096, size, 0, 0, 0, size];
     if image::judge::tables_sound(&im) {
-        let stopped = repeat(&im, code, turns);
+        let stopped = repeat(&Tables { words: &im }, code, turns);
         println!(rt; "{stopped}")
     } else {
         rt.write_all(b"no image\n")

@@ -2,8 +2,10 @@
 // Crate `walk` does what is defined here.
 #![tactic(auto)]
 
-ghost use Rattle.std.specs.Prelude.{◌≡◌};
-ghost use Rattle.turns.specs.Walks.{error_number};
+ghost use Rattle.std.specs.Prelude.{◌≡◌, Ok, Err};
+ghost use Rattle.turns.specs.Walks.{error_number, judged_by};
+
+use lookups::PlaceError;
 
 // Why a walk is refused, or stopped before its end: document 01's 1, 2, 3, 4; 5 stops it.
 #[derive(Clone, Copy, PartialEq, Eq)]
@@ -25,6 +27,18 @@ impl From<WalkError> for u32 {
             WalkError::Misaligned => 3,
             WalkError::MapTooSmall => 4,
             WalkError::StackFull => 5,
+        }
+    }
+}
+
+// What a start is refused with that is no code, or not aligned.
+impl From<PlaceError> for WalkError {
+    ghost from_gives = { λ p e. judged_by (Err p) (Ok tt) ≡ Err e };
+
+    fn from(p: PlaceError) -> WalkError {
+        match p {
+            PlaceError::NotCode => WalkError::NotCode,
+            PlaceError::Misaligned => WalkError::Misaligned,
         }
     }
 }

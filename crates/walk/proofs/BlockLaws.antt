@@ -13,7 +13,7 @@ use Rattle.words.specs.Choice.{pick}
 use Rattle.search.proofs.EveryLaws.{and_left, and_right}
 use Rattle.places.specs.declared.SectionAddress.{SectionAddress}
 use Rattle.image.specs.Numbers.{max_code_words}
-use Rattle.image.specs.Rules.{code_words, sound}
+use Rattle.image.specs.Rules.{code_words, tables_sound, data_inside, sound}
 use Rattle.image.proofs.SoundTables.{sound_tables, tables_of_sound}
 use Rattle.lookups.specs.Bytes.{data_from}
 use Rattle.lookups.specs.Code.{code_place, word_number}
@@ -36,6 +36,10 @@ use Rattle.turns.proofs.StraightRuns.{straight_run}
 use Rattle.turns.proofs.Leavings.{marks_leaver}
 use Rattle.walk.specs.Blocks.{jump_in, Block, past, jumps_out, jumps_old, leaves_by}
 use Rattle.walk.proofs.Jumps.{Asks, leaver_asks}
+
+-- both rules on an image are all
+pub image_sound : (ws : List ℕ) (n : ℕ) → tables_sound ws ≡ true → data_inside ws n ≡ true → sound ws n ≡ true
+image_sound ws n h i = rw (h, i)
 
 -- the measure of a block's loop
 abbrev pub left_at : List ℕ → List ℕ → SectionAddress → VM → List ℕ → ℕ

@@ -9,7 +9,7 @@ use lib.ListN.{length}
 use Rattle.std.specs.Prelude.{Some, None, Result, Ok, Err, Option}
 use Rattle.places.specs.declared.SectionAddress.{SectionAddress}
 use Rattle.image.specs.Numbers.{max_code_words}
-use Rattle.image.specs.Rules.{code_words, sound}
+use Rattle.image.specs.Rules.{code_words}
 use Rattle.lookups.specs.Code.{code_place, word_number}
 use Rattle.vm.specs.States.{bases_of}
 use Rattle.step.specs.declared.Leave.{Leave}
@@ -26,7 +26,7 @@ use Rattle.turns.proofs.Pushes.{AtWord}
 use Rattle.turns.proofs.Counts.{Sound}
 use Rattle.turns.proofs.WalkEnds.{reach_sound}
 use Rattle.turns.proofs.Starts.{start_sound}
-use Rattle.turns.proofs.WalkLaws.{image_sound, map_room, lawful}
+use Rattle.turns.proofs.WalkLaws.{map_room, lawful}
 use Rattle.turns.proofs.HeadLaws.{head_fits, head_full, head_empty, head_pop_old, head_past, head_jump_out, head_jump_old, head_leave}
 use Rattle.pushes.specs.declared.Taken.{Taken}
 use Rattle.pushes.specs.Takes.{TakenWays}
@@ -148,9 +148,6 @@ module _ {ws bs starts : List ℕ} {two thirteen : (Option ℕ)} {vis words : Li
 
     fine : judged i vis ≡ Ok tt
     fine = first.0
-
-    pub walk_sound : sound ws (length bs) ≡ true
-    walk_sound = image_sound i vis lent fine
 
     module _ {words'' : List ℕ} {k : ℕ} {buffer'' : List ℕ} {full : Bool} {v : List ℕ} {a b c d : ℕ}
         (kept : Kept ws bs from upto words' b₀.held buffer b₀.full vis' words'' k buffer'' full v a b c d) where

@@ -1,29 +1,28 @@
 -- Judging and starting: the starts one by one, an answer that is no refusal, and the first `Head`.
 -- Assumes of the last law that nothing is refused.
 use Prim.Native.Nat.{ℕ, ◌+◌, ◌≤◌, ◌<◌}
-use mathlib.Core.Path.{◌≡◌, refl, sym, ap, subst}
-use mathlib.Core.Bool.{Bool, true, false}
+use mathlib.Core.Path.{◌≡◌, sym, ap, subst}
+use mathlib.Core.Bool.{Bool}
 use mathlib.Core.List.{List, [], ◌++◌, append-nil}
 use native.Mathlib.Numerals.{add-one}
 use lib.ListN.{length, get_or, take, drop, drop_of_length-le}
 use lib.Seq.{drop-cons, take-length}
 use Rattle.std.specs.Prelude.{⊤, Result, Ok, Err, Option}
+use Rattle.std.specs.Result.{IsErrAnd}
 use Rattle.places.specs.declared.SectionAddress.{SectionAddress}
-use Rattle.image.specs.Rules.{code_words, sound}
+use Rattle.image.specs.Rules.{code_words}
 use Rattle.lookups.specs.Code.{code_place}
-use native.Mathlib.Omega.{arith}
 use Rattle.vm.specs.declared.VM.{VM}
 use Rattle.vm.specs.States.{bases_of}
 use Rattle.stack.specs.Stack.{Entry, room}
 use Rattle.stack.proofs.Stacks.{no_entries}
-use Rattle.visited.specs.Bits.{has_room, cleared}
+use Rattle.visited.specs.Bits.{cleared}
 use Rattle.jump_tables.specs.Tables.{Outcome}
 use Rattle.turns.specs.declared.WalkError.{WalkError}
-use Rattle.turns.specs.declared.WalkError.TheVariants as error
 use Rattle.turns.specs.Grounds.{idle, Pile, conf}
 use Rattle.turns.specs.Turns.{push_each, Reach, here}
 use Rattle.turns.specs.Moves.{Asked, Lent, place_of, ground_of}
-use Rattle.turns.specs.Walks.{Given, given, start_in, starts_judged, judged_by, judged}
+use Rattle.turns.specs.Walks.{given, start_in, starts_judged, judged_by, judged}
 use Rattle.turns.specs.Heads.{Piles, Head}
 use Rattle.walk.specs.Starts.{places_of, Begins}
 use Rattle.lookups.specs.declared.PlaceError.TheVariants as place
@@ -42,29 +41,12 @@ pub judges_none : (ws starts : List ℕ) (j : ℕ) → length starts ≤ j → j
 unfolding starts_judged
 judges_none ws starts j l = rw (drop_of_length-le starts l)
 
--- the refusals before the starts
-pub judged_1 : (i : Given) (vis : List ℕ) → sound i.tables (length i.bytes) ≡ false → judged i vis ≡ Err error.BrokenImage
-unfolding judged
-judged_1 i vis e = rw e
-
-pub judged_4 : (i : Given) (vis : List ℕ) → sound i.tables (length i.bytes) ≡ true → has_room vis (code_words i.tables) ≡ false
-    → judged i vis ≡ Err error.MapTooSmall
-unfolding judged
-judged_4 i vis e r = rw (e, r)
-
--- what one start's judgement tells of all
-error_not_ok : {A : Type 0} (e : WalkError) → ◌≡◌ {A = Result ⊤ WalkError} (Err e) (Ok tt) → A
-error_not_ok e q = let z : ◌≡◌ {A = ℕ} 0 1 = cc in absurd (omega arith)
-
-pub start_refuses : (p : Result ⊤ PlaceError) (z : Result ⊤ WalkError) (e : WalkError) → judged_by p (Ok tt) ≡ Err e → judged_by p z ≡ Err e
-start_refuses (Err place.NotCode) z e h = h
-start_refuses (Err place.Misaligned) z e h = h
-start_refuses (Ok tt) z e h = error_not_ok e (sym h)
-
-pub start_passes : (p : Result ⊤ PlaceError) (z : Result ⊤ WalkError) → judged_by p (Ok tt) ≡ Ok tt → judged_by p z ≡ z
-start_passes (Err place.NotCode) z h = error_not_ok error.NotCode h
-start_passes (Err place.Misaligned) z h = error_not_ok error.Misaligned h
-start_passes (Ok tt) z h = refl
+-- a bad start's refusal is that of all from it on
+pub start_refuses : (e : PlaceError) (z r : Result ⊤ WalkError) → IsErrAnd r (λ x. judged_by (Err e) (Ok tt) ≡ Err x) → r ≡ judged_by (Err e) z
+start_refuses place.NotCode z (Err x) h = sym h
+start_refuses place.Misaligned z (Err x) h = sym h
+start_refuses place.NotCode z (Ok u) h = absurd h
+start_refuses place.Misaligned z (Ok u) h = absurd h
 
 -- the map cleared and the starts pushed: the loop over blocks begins
 module _ (ws bs starts : List ℕ) (two thirteen : Option ℕ) (vis words : List ℕ) where

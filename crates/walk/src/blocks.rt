@@ -1,7 +1,6 @@
 // One block: straight runs in place, and the jumps inside the section from one to the next.
-// The image is sound.
 ghost use Rattle.std.specs.Prelude.{◌≡◌, true, ◌&&◌, not, ℕ, ◌*◌, ◌≤◌, length, Option};
-ghost use Rattle.image.specs.Rules.{code_words, sound, tables_sound};
+ghost use Rattle.image.specs.Rules.{code_words};
 ghost use Rattle.lookups.specs.Code.{code_place, word_number};
 ghost use Rattle.visited.specs.Bits.{visited_at};
 ghost use Rattle.turns.specs.Moves.{is_fine, ground_of};
@@ -9,6 +8,7 @@ ghost use Rattle.cells.specs.Cells.{state_of, Cells};
 ghost use Rattle.walk.specs.Blocks.{target_in, branch_in, jump_in, ending_of, Block};
 
 use crate::Ended;
+use image::{Image, Tables};
 use lookups::{PlaceError, code_place, word_number};
 use places::{RelocationTarget, SectionAddress};
 use runs::is_ended;
@@ -50,9 +50,8 @@ fn jump_in(l: Leave, section: u32) -> Option<SectionAddress>
 }
 
 // Whether a place is a word of code that was not visited.
-fn is_new(im: &[u32], map: &[u32], q: SectionAddress) -> bool
-    requires { tables_sound im.now ≡ true }
-    ensures { result ≡ is_fine (code_place im.now q) && not (visited_at map.now (word_number im.now q)) }
+fn is_new(im: &Tables<'_>, map: &[u32], q: SectionAddress) -> bool
+    ensures { result ≡ is_fine (code_place im.now.words.now q) && not (visited_at map.now (word_number im.now.words.now q)) }
 {
     match code_place(im, q) {
         Ok(()) => !visited::contains(map, word_number(im, q)),
@@ -63,26 +62,20 @@ fn is_new(im: &[u32], map: &[u32], q: SectionAddress) -> bool
 
 // The block at a word of code, from the state in the cells. What it runs over is marked; the word that leaves is marked and not yet
 // followed, and the cells hold the state before it.
-pub fn run_block(
-    im: &[u32],
-    bytes: &[u8],
-    map: &mut [u32],
-    from: SectionAddress,
-    cells: &mut [u32],
-) -> Ended
-    requires { (sound im.now (length bytes.now) ≡ true) × (code_words im.now ≤ length map.old * 32) × (is_fine (code_place im.now from) ≡ true) × Cells cells.old (state_of cells.old) }
-    ensures { Cells cells.new (state_of cells.new) × ((start : SectionAddress) (end : Option SectionAddress) (slots : ℕ) → Block (ground_of im.now bytes.now start end slots) from (state_of cells.old) map.old (ending_of result (state_of cells.new)) map.new) }
+pub fn run_block(im: &Image<'_>, map: &mut [u32], from: SectionAddress, cells: &mut [u32]) -> Ended
+    requires { (code_words im.now.tables.words.now ≤ length map.old * 32) × (is_fine (code_place im.now.tables.words.now from) ≡ true) × Cells cells.old (state_of cells.old) }
+    ensures { Cells cells.new (state_of cells.new) × ((start : SectionAddress) (end : Option SectionAddress) (slots : ℕ) → Block (ground_of im.now.tables.words.now im.now.«data».now start end slots) from (state_of cells.old) map.old (ending_of result (state_of cells.new)) map.new) }
 {
     let mut p = from;
     let mut stepped: u64 = 0;
     let mut begun: u64 = 0;
     // No for: a block goes on by its jumps.
     loop {
-        let code = lookups::data_from(im, bytes, p);
-        let r = runs::run(im, code, p, cells);
+        let code = lookups::data_from(im, p);
+        let r = runs::run(&im.tables, code, p, cells);
         let at = r.at;
         let l = r.leave;
-        let w = word_number(im, p);
+        let w = word_number(&im.tables, p);
         let many = (at.address - p.address) / 4;
         if is_ended(l) {
             visited::mark_run(map, w, many);
@@ -105,7 +98,7 @@ pub fn run_block(
                 };
             }
             Some(q) => {
-                if is_new(im, map, q) {
+                if is_new(&im.tables, map, q) {
                     begun += 1;
                     p = q;
                     continue;

@@ -5,8 +5,7 @@
 pub mod blocks;
 pub mod starts;
 
-ghost use Rattle.std.specs.Prelude.{◌≡◌, true, length};
-ghost use Rattle.image.specs.Rules.{tables_sound, data_inside};
+ghost use Rattle.std.specs.Prelude.{◌≡◌, length, Err};
 ghost use Rattle.cells.specs.Cells.{state_of, Cells};
 ghost use Rattle.stack.specs.Stack.{Stack};
 ghost use Rattle.turns.specs.Moves.{table_room};
@@ -16,10 +15,11 @@ ghost use Rattle.walk.specs.Blocks.{ending_of, Followed};
 
 use blocks::run_block;
 use cells::STATE_WORDS;
+use image::Image;
 use lookups::word_number;
 use places::SectionAddress;
 use pushes::{Taken, take};
-use starts::begin;
+use starts::begin_image;
 use step::Leave;
 use turns::{WalkError, Walked};
 
@@ -49,6 +49,7 @@ pub struct Ended {
 // visited, and the answer is Done with an empty stack, or StackFull (5) where a push found all slots held: then the bits, the waiting
 // states and the counts are as reached. `two` and `thirteen` are what r2 and r13 hold, `from` and `upto` the bounds of the function
 // for tables of guessed size. The stack's words may be anything before; the entry buffer is scratch for tables.
+#[tactic(auto, unfolding(turns::specs::Walks::walked, turns::specs::Walks::judged))]
 pub fn walk(
     im: &[u32],
     data: &[u8],
@@ -63,17 +64,44 @@ pub fn walk(
 ) -> Walked
     ensures { walked (given im.now «data».now (places_of starts.now) two thirteen from upto) map.old (record { stack = stack.old; entries = entries.old }) ≡ record { result = result; vis = map.new; lent = record { stack = stack.new; entries = entries.new } } }
 {
-    let b = match begin(im, data, starts, two, thirteen, map, stack) {
+    match Image::new(im, data) {
+        Ok(im) => walk_image(&im, starts, two, thirteen, from, upto, map, stack, entries),
+        Err(_) => refused(WalkError::BrokenImage),
+    }
+}
+
+// What a refusal answers: no counts, and nothing waits.
+fn refused(e: WalkError) -> Walked
+    ensures { result ≡ record { answer = Err e; stepped = 0; begun = 0; read = 0; not_read = 0; held = 0 } }
+{
+    Walked {
+        answer: Err(e),
+        stepped: 0,
+        begun: 0,
+        read: 0,
+        not_read: 0,
+        held: 0,
+    }
+}
+
+// The walk over an image that breaks no rule.
+fn walk_image(
+    im: &Image<'_>,
+    starts: &[u64],
+    two: Option<u32>,
+    thirteen: Option<u32>,
+    from: SectionAddress,
+    upto: Option<SectionAddress>,
+    map: &mut [u32],
+    stack: &mut [u32],
+    entries: &mut [u64; TABLE_ROOM],
+) -> Walked
+    ensures { walked (given im.now.tables.words.now im.now.«data».now (places_of starts.now) two thirteen from upto) map.old (record { stack = stack.old; entries = entries.old }) ≡ record { result = result; vis = map.new; lent = record { stack = stack.new; entries = entries.new } } }
+{
+    let b = match begin_image(im, starts, two, thirteen, map, stack) {
         Ok(b) => b,
         Err(e) => {
-            return Walked {
-                answer: Err(e),
-                stepped: 0,
-                begun: 0,
-                read: 0,
-                not_read: 0,
-                held: 0,
-            };
+            return refused(e);
         }
     };
     let mut state = [0u32; STATE_WORDS];
@@ -106,13 +134,13 @@ pub fn walk(
             };
         }
         let p = stack::top_place(stack, held);
-        if visited::contains(map, word_number(im, p)) {
+        if visited::contains(map, word_number(&im.tables, p)) {
             held -= 1;
             continue;
         }
         stack::top_cells(stack, held, &mut state);
-        let e = run_block(im, data, map, p, &mut state);
-        let t = follow(im, data, from, upto, stack, held - 1, entries, e, &state);
+        let e = run_block(im, map, p, &mut state);
+        let t = follow(im, from, upto, stack, held - 1, entries, e, &state);
         held = t.held;
         full = t.full;
         stepped += e.stepped;
@@ -124,8 +152,7 @@ pub fn walk(
 
 // What the end of a block asks for: its last word's ways are taken, if it left by some.
 fn follow(
-    im: &[u32],
-    data: &[u8],
+    im: &Image<'_>,
     from: SectionAddress,
     upto: Option<SectionAddress>,
     stack: &mut [u32],
@@ -134,14 +161,12 @@ fn follow(
     e: Ended,
     state: &[u32],
 ) -> Taken
-    requires im_value { (tables_sound im.now ≡ true) × (data_inside im.now (length «data».now) ≡ true) × Cells state.now (state_of state.now) }
+    requires state { Cells state.now (state_of state.now) }
     requires stack { Stack stack.old held × (length entries.old ≡ table_room) }
-    ensures { Followed im.now «data».now from upto stack.old held entries.old (ending_of e (state_of state.now)) stack.new entries.new result }
+    ensures { Followed im.now.tables.words.now im.now.«data».now from upto stack.old held entries.old (ending_of e (state_of state.now)) stack.new entries.new result }
 {
     match e.leave {
-        Some(leave) => take(
-            im, data, from, upto, stack, held, entries, e.at, leave, state,
-        ),
+        Some(leave) => take(im, from, upto, stack, held, entries, e.at, leave, state),
         None => Taken {
             held,
             full: false,

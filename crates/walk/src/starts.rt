@@ -1,62 +1,74 @@
 // What comes before the first block: judging, and the starts pushed.
-// Requires nothing; the image may be broken.
-ghost use Rattle.std.specs.Prelude.{◌≡◌, true, ℕ, Ok, Option};
+ghost use Rattle.std.specs.Prelude.{ℕ, ◌≡◌, Option};
 ghost use Rattle.places.specs.declared.SectionAddress.{SectionAddress};
-ghost use Rattle.image.specs.Rules.{tables_sound};
-ghost use Rattle.lookups.specs.Code.{code_place};
-ghost use Rattle.turns.specs.Walks.{given, starts_judged, judged_by, judged};
+ghost use Rattle.turns.specs.Walks.{given, starts_judged, judged};
 ghost use Rattle.walk.specs.Starts.{places_of, Begins};
 
 use crate::Begun;
 use cells::STATE_WORDS;
 use clones::Made;
-use image::BrokenImage;
 use image::code::code_words;
-use lookups::{PlaceError, code_place};
+use image::{Image, Tables};
+use lookups::code_place;
 use places::SectionAddress;
 use pushes::tables::{place_of, push_keys};
 use turns::WalkError;
 use vm::state::new_with_base;
 
-// A start that is no code is NotCode (2), one that is not aligned Misaligned (3).
-fn judge_start(im: &[u32], p: SectionAddress) -> Result<(), WalkError>
-    requires { tables_sound im.now ≡ true }
-    ensures { result ≡ judged_by (code_place im.now p) (Ok tt) }
-{
-    match code_place(im, p) {
-        Err(PlaceError::NotCode) => Err(WalkError::NotCode),
-        Err(PlaceError::Misaligned) => Err(WalkError::Misaligned),
-        Ok(()) => Ok(()),
-    }
-}
-
-// The starts in turn, the first bad one deciding.
-fn judge_starts(im: &[u32], starts: &[u64]) -> Result<(), WalkError>
-    requires { tables_sound im.now ≡ true }
-    ensures { result ≡ starts_judged im.now (places_of starts.now) }
+// The starts in turn, the first bad one deciding: NotCode (2) or Misaligned (3).
+fn judge_starts(im: &Tables<'_>, starts: &[u64]) -> Result<(), WalkError>
+    ensures { result ≡ starts_judged im.now.words.now (places_of starts.now) }
 {
     for start in starts {
-        judge_start(im, place_of(*start))?;
+        code_place(im, place_of(*start))?;
     }
     Ok(())
 }
 
-// BrokenImage (1), MapTooSmall (4), then the starts.
-fn judge(im: &[u32], data: &[u8], starts: &[u64], map: &[u32]) -> Result<(), WalkError>
-    ensures { (two thirteen : Option ℕ) (from : SectionAddress) (upto : Option SectionAddress) → result ≡ judged (given im.now «data».now (places_of starts.now) two thirteen from upto) map.now }
+// MapTooSmall (4), then the starts.
+#[tactic(auto, using(image::proofs::SoundTables::laid), unfolding(turns::specs::Walks::judged))]
+fn judge(im: &Image<'_>, starts: &[u64], map: &[u32]) -> Result<(), WalkError>
+    ensures { (two thirteen : Option ℕ) (from : SectionAddress) (upto : Option SectionAddress) → result ≡ judged (given im.now.tables.words.now im.now.«data».now (places_of starts.now) two thirteen from upto) map.now }
 {
-    match image::check_image(im, data) {
-        Err(_) => Err(WalkError::BrokenImage),
-        Ok(()) => {
-            if visited::has_room(map, code_words(im)) {
-                return judge_starts(im, starts);
-            }
-            Err(WalkError::MapTooSmall)
-        }
+    if visited::has_room(map, code_words(im.tables.words)) {
+        return judge_starts(&im.tables, starts);
     }
+    Err(WalkError::MapTooSmall)
 }
 
 // The judgement; where nothing is refused the W bits are cleared and the starts pushed, each with a fresh state.
+#[tactic(auto, using(image::proofs::SoundTables::laid))]
+pub(crate) fn begin_image(
+    im: &Image<'_>,
+    starts: &[u64],
+    two: Option<u32>,
+    thirteen: Option<u32>,
+    map: &mut [u32],
+    stack: &mut [u32],
+) -> Result<Begun, WalkError>
+    ensures { Begins im.now.tables.words.now im.now.«data».now starts.now two thirteen map.old stack.old result map.new stack.new }
+{
+    judge(im, starts, map)?;
+    visited::clear(map, code_words(im.tables.words));
+    let mut fresh = [0u32; STATE_WORDS];
+    cells::put_state(&mut fresh, new_with_base(two, thirteen));
+    let t = push_keys(
+        &im.tables,
+        stack,
+        0,
+        starts,
+        starts.len(),
+        &fresh,
+        Made::Same,
+    );
+    Ok(Begun {
+        held: t.held,
+        full: t.full,
+    })
+}
+
+// The same for any words and data: BrokenImage (1) comes first. `walk` makes its image itself, and keeps it.
+#[tactic(auto, unfolding(turns::specs::Walks::judged))]
 pub fn begin(
     im: &[u32],
     data: &[u8],
@@ -68,13 +80,8 @@ pub fn begin(
 ) -> Result<Begun, WalkError>
     ensures { Begins im.now «data».now starts.now two thirteen map.old stack.old result map.new stack.new }
 {
-    judge(im, data, starts, map)?;
-    visited::clear(map, code_words(im));
-    let mut fresh = [0u32; STATE_WORDS];
-    cells::put_state(&mut fresh, new_with_base(two, thirteen));
-    let t = push_keys(im, stack, 0, starts, starts.len(), &fresh, Made::Same);
-    Ok(Begun {
-        held: t.held,
-        full: t.full,
-    })
+    match Image::new(im, data) {
+        Ok(im) => begin_image(&im, starts, two, thirteen, map, stack),
+        Err(_) => Err(WalkError::BrokenImage),
+    }
 }

@@ -7,4 +7,4 @@ use Rattle.runs.proofs.Running.{Running}
 use Rattle.runs.proofs.run.Given as goal
 
 abbrev pub invariant-loop-k : goal.invariant-loop-k
-invariant-loop-k l = Running l.im l.code (run_of l.im l.code 0 (length l.code / 4) l.initial.p (state_of l.initial.cells)) (l.k * 4) l.p (state_of l.cells) × Cells l.cells (state_of l.cells)
+invariant-loop-k l = Running l.im.words.now l.code (run_of l.im.words.now l.code 0 (length l.code / 4) l.initial.p (state_of l.initial.cells)) (l.k * 4) l.p (state_of l.cells) × Cells l.cells (state_of l.cells)

@@ -15,20 +15,20 @@ pub loop-i-preserved : goal.loop-i-preserved
 loop-i-preserved c =
     let a = c.args in
     let q = c.loop-i in
-    let word = ap (is_word a.im.now) (sym c.held_place.ensures) ∙ sym c.is_word.ensures ∙ c.if-not-is_word.false in
-    every_more (λ (k : ℕ). is_word a.im.now (held_at a.stack.now k).place) q.i q.invariant word
+    let word = ap (is_word a.im.now.words.now) (sym c.held_place.ensures) ∙ sym c.is_word.ensures ∙ c.if-not-is_word.false in
+    every_more (λ (k : ℕ). is_word a.im.now.words.now (held_at a.stack.now k).place) q.i q.invariant word
 
 pub returns-then-not-is_word : goal.returns-then-not-is_word
 returns-then-not-is_word c =
     let a = c.args in
     let q = c.loop-i in
-    let word = ap (is_word a.im.now) (sym c.held_place.ensures) ∙ sym c.is_word.ensures ∙ c.if-not-is_word.true in
-    sym (all_held a.im.now a.stack.now a.count
-    ∙ every_fails (λ (k : ℕ). is_word a.im.now (held_at a.stack.now k).place) a.count q.i (omega arith) word)
+    let word = ap (is_word a.im.now.words.now) (sym c.held_place.ensures) ∙ sym c.is_word.ensures ∙ c.if-not-is_word.true in
+    sym (all_held a.im.now.words.now a.stack.now a.count
+    ∙ every_fails (λ (k : ℕ). is_word a.im.now.words.now (held_at a.stack.now k).place) a.count q.i (omega arith) word)
 
 pub returns : goal.returns
 returns c =
     let a = c.args in
     let q = c.loop-i in
-    sym (all_held a.im.now a.stack.now a.count
-    ∙ every_done (λ (k : ℕ). is_word a.im.now (held_at a.stack.now k).place) a.count q.i (omega arith) q.invariant)
+    sym (all_held a.im.now.words.now a.stack.now a.count
+    ∙ every_done (λ (k : ℕ). is_word a.im.now.words.now (held_at a.stack.now k).place) a.count q.i (omega arith) q.invariant)

@@ -8,4 +8,4 @@ use Rattle.executor.specs.Judge.{is_word}
 use Rattle.executor.proofs.judge.all_words.Given as goal
 
 abbrev pub invariant-loop-i : goal.invariant-loop-i
-invariant-loop-i l = every (λ (k : ℕ). is_word l.im (held_at l.stack k).place) l.i ≡ true
+invariant-loop-i l = every (λ (k : ℕ). is_word l.im.words.now (held_at l.stack k).place) l.i ≡ true

@@ -5,4 +5,4 @@ use Rattle.executor.specs.Next.{top}
 use Rattle.executor.proofs.stepping.highest.Given as goal
 
 abbrev pub invariant-loop-i : goal.invariant-loop-i
-invariant-loop-i l = top l.im l.map (entries l.stack l.count) ≡ top l.im l.map (entries l.stack l.i)
+invariant-loop-i l = top l.im.words.now l.map (entries l.stack l.count) ≡ top l.im.words.now l.map (entries l.stack l.i)

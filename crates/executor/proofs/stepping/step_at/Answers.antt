@@ -6,5 +6,5 @@ use Rattle.executor.proofs.stepping.step_at.Goals as goal
 
 pub returns : goal.returns
 returns c =
-    let w = word_read c.args.im.now c.args.bytes.now c.args.at c.code_word.result c.requires.0 c.requires.1 c.requires.2 c.code_word.ensures in
+    let w = word_read c.args.im.now.tables.words.now c.args.im.now.«data».now c.args.at c.code_word.result c.args.im.now.tables.sound c.args.im.now.inside c.requires c.code_word.ensures in
     (rw (c.state_after.ensures, c.step_word-stepped.ensures, w), c.insert.ensures ∙ ap (with_bit c.args.map.now) c.word_number.ensures)

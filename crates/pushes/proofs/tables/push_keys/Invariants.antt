@@ -5,4 +5,4 @@ use Rattle.clones.specs.Clones.{made_of}
 use Rattle.pushes.proofs.tables.push_keys.Given as goal
 
 abbrev pub invariant-loop-key : goal.invariant-loop-key
-invariant-loop-key l = KeysIn l.im l.initial.stack l.count l.entries (made_of l.made (state_of l.cells)) l.stack l.held l.key-index
+invariant-loop-key l = KeysIn l.im.words.now l.initial.stack l.count l.entries (made_of l.made (state_of l.cells)) l.stack l.held l.key-index

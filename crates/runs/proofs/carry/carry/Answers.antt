@@ -1,6 +1,6 @@
 -- One arm for each effect.
 use mathlib.Core.Path.{refl}
-use Rattle.cells.proofs.CellLaws.{cells_state, cells_long}
+use Rattle.cells.proofs.CellLaws.{cells_state}
 use Rattle.runs.proofs.Carrying.{cells_as, cells_own}
 use Rattle.step.specs.Runs.{leave_by}
 use Rattle.step.specs.Step.{done_of}
@@ -11,18 +11,12 @@ use Rattle.runs.proofs.carry.carry.Goals as goal
 pub set_compare-requires : goal.set_compare-requires
 set_compare-requires c = (cells_own c.set_register-in-Compare.ensures, omega (arith, c.crfd.ensures))
 
-pub lr_in-requires : goal.lr_in-requires
-lr_in-requires c = omega (arith, cells_long c.requires.1)
-
-pub ctr_in-requires : goal.ctr_in-requires
-ctr_in-requires c = omega (arith, cells_long c.requires.1)
-
 pub forget-requires : goal.forget-requires
 forget-requires c = (cells_own c.set_register-in-Load.ensures, omega (arith, c.rd-d.ensures))
 
 pub returns-in-Nothing : goal.returns-in-Nothing
 unfolding leave_by went_of done_of
-returns-in-Nothing c = rw c.in-Nothing.is (record { leave = refl; cells = c.requires.1 })
+returns-in-Nothing c = rw c.in-Nothing.is (record { leave = refl; cells = c.requires })
 
 pub returns-in-SetD : goal.returns-in-SetD
 unfolding leave_by went_of done_of
@@ -66,4 +60,4 @@ returns-in-Clear c = rw c.in-Clear.is (record { leave = refl; cells = c.clear.en
 
 pub returns-in-Leaves : goal.returns-in-Leaves
 unfolding leave_by went_of done_of
-returns-in-Leaves c = rw c.in-Leaves.is (record { leave = c.leaves.ensures; cells = c.requires.1 })
+returns-in-Leaves c = rw c.in-Leaves.is (record { leave = c.leaves.ensures; cells = c.requires })

@@ -1,5 +1,5 @@
 -- The register is marked, then the compare recorded: in either order they are the same state.
-use Rattle.cells.proofs.CellLaws.{cells_state, cells_long}
+use Rattle.cells.proofs.CellLaws.{cells_state}
 use Rattle.runs.proofs.Carrying.{cells_as, cells_own}
 use native.Mathlib.Omega.{arith}
 use Rattle.runs.specs.Went.{compared_of}
@@ -8,9 +8,6 @@ use Rattle.runs.proofs.carry.compared.Goals as goal
 pub returns-then-l : goal.returns-then-l
 unfolding compared_of
 returns-then-l c = cells_as (rw (← c.l.ensures, c.if-l.true)) c.requires
-
-pub register_in-g-requires : goal.register_in-g-requires
-register_in-g-requires c = (omega (arith, cells_long c.requires), omega (arith, c.ra-a.ensures))
 
 pub set_compare-requires : goal.set_compare-requires
 set_compare-requires c = (cells_own c.set_register.ensures, omega (arith, c.crfd-crf.ensures))

@@ -6,4 +6,4 @@ use mathlib.Core.Path.{◌≡◌}
 use Rattle.shown.proofs.sections.show.Given as goal
 
 abbrev pub invariant-loop-i : goal.invariant-loop-i
-invariant-loop-i g l = (l.i ≤ sections l.im) × (l.base ≡ words_before l.im l.i)
+invariant-loop-i g l = (l.i ≤ sections l.im.words.now) × (l.base ≡ words_before l.im.words.now l.i)

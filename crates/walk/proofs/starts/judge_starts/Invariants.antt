@@ -6,4 +6,4 @@ use Rattle.walk.proofs.StartLaws.{judged_from}
 use Rattle.walk.proofs.starts.judge_starts.Given as goal
 
 abbrev pub invariant-loop-start : goal.invariant-loop-start
-invariant-loop-start l = judged_from l.im l.starts l.start-index ≡ starts_judged l.im (places_of l.starts)
+invariant-loop-start l = judged_from l.im.words.now l.starts l.start-index ≡ starts_judged l.im.words.now (places_of l.starts)
