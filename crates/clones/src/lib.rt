@@ -27,12 +27,15 @@ pub enum Made {
     Result { value: GprValue, crf: u8 },
 }
 
-// n words of one list, from a number on, over those of another.
+// n words of one list, from a number on, over those of another. One by one: copy_from_slice calls memmove, which the archive for C
+// must not need.
 pub fn copy(to: &mut [u32], at: usize, from: &[u32], first: usize, n: usize)
     requires { (at + n ≤ length to.old) × (first + n ≤ length from.now) }
     ensures { to.new ≡ put to.old at (take n (drop first from.now)) }
 {
-    to[at..at + n].copy_from_slice(&from[first..first + n]);
+    for i in 0..n {
+        to[at + i] = from[first + i];
+    }
 }
 
 fn clear(words: &mut [u32], at: usize, n: usize)

@@ -53,12 +53,12 @@ fn constant(n: u32) -> Gpr {
     }
 }
 
-// Every register the Constant that the record has before the word.
+// Every register the Constant that the record has before the word. By number, here and below: over chunks the compiler takes the
+// state apart, and a record takes a third more time.
 fn before(record: &[u8; RECORD]) -> VM {
     let mut t = vm::state::new();
-    let (numbers, _) = record[8..136].as_chunks::<4>();
-    for (register, n) in t.gpr.iter_mut().zip(numbers) {
-        *register = constant(u32::from_be_bytes(*n));
+    for r in 0..32 {
+        t.gpr[r] = constant(word_at(record, 8 + r * 4));
     }
     t
 }
@@ -72,9 +72,8 @@ fn holds(g: Gpr, n: u32) -> bool {
 
 // Every register is the Constant that the record has after the word.
 fn is_after(t: VM, record: &[u8; RECORD]) -> bool {
-    let (numbers, _) = record[136..].as_chunks::<4>();
-    for (register, n) in t.gpr.iter().zip(numbers) {
-        if !holds(*register, u32::from_be_bytes(*n)) {
+    for r in 0..32 {
+        if !holds(t.gpr[r], word_at(record, 136 + r * 4)) {
             return false;
         }
     }
