@@ -54,7 +54,7 @@ fn constant(n: u32) -> Gpr {
 }
 
 // Every register the Constant that the record has before the word. By number, here and below: over chunks the compiler takes the
-// state apart, and a record takes a third more time.
+// state apart, and the program takes up to a third more time.
 fn before(record: &[u8; RECORD]) -> VM {
     let mut t = vm::state::new();
     for r in 0..32 {
